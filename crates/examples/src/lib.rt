@@ -1,5 +1,6 @@
 // The worked examples of the documentation, as theorems about the definitions.
 ghost use Rattle.examples.specs.Acceptance.{Accepted-lists, Refused-lists};
+ghost use Rattle.examples.specs.Matches.{Matches, Registers};
 ghost use mathlib.Core.Path.{_≡_};
 
 fn acceptance_stands()
@@ -7,12 +8,20 @@ fn acceptance_stands()
     ensures refusals { λ _. ⌜ Refused-lists ⌝ }
 {}
 
+fn matches_stand()
+    ensures registers { λ _. ⌜ Registers ⌝ }
+    ensures matches { λ _. ⌜ Matches ⌝ }
+{}
+
 // How many examples are stated here, all of which hold.
 pub fn examples_stand() -> u32
     ensures accepted { λ _. ⌜ Accepted-lists ⌝ }
     ensures refusals { λ _. ⌜ Refused-lists ⌝ }
-    ensures count { λ r. ⌜ r ≡ 10 ⌝ }
+    ensures registers { λ _. ⌜ Registers ⌝ }
+    ensures matches { λ _. ⌜ Matches ⌝ }
+    ensures count { λ r. ⌜ r ≡ 18 ⌝ }
 {
     acceptance_stands();
-    10
+    matches_stand();
+    18
 }

@@ -1,0 +1,4 @@
+pub mod Masks
+pub mod Picks
+pub mod Places
+pub mod Rules
