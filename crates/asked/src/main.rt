@@ -1,5 +1,7 @@
 // Reads a table of images and queries from standard input, asks the library each query, and
 // compares its answers with those that the table has. docs/COMPARISON.md has the form of the table.
+#![tactic(auto)]
+
 mod answer;
 mod ask;
 mod check;

@@ -1,4 +1,6 @@
 // The worked examples of the documentation, as theorems about the definitions.
+#![tactic(auto)]
+
 ghost use Rattle.examples.specs.Acceptance.{AcceptedLists, RefusedLists};
 ghost use Rattle.examples.specs.Matches.{Matches, Registers};
 ghost use Rattle.std.specs.Prelude.{◌≡◌};

@@ -1,4 +1,6 @@
 // A sheet's text, from its bytes to the verdict on the image in it.
+#![tactic(auto)]
+
 ghost use Rattle.judge.specs.Judged.{Judged};
 ghost use Rattle.nodes.specs.Faults.{answer};
 ghost use Rattle.std.specs.Prelude.{◌≡◌, length};

@@ -1,4 +1,6 @@
 // Keys: unsigned numbers of a fixed width, read by the rest of the library widened to 64 bits.
+#![tactic(auto)]
+
 ghost use Rattle.std.specs.Prelude.{ℕ, ◌%◌, ◌^◌, ◌<◌, ◌≤◌, ◌≡◌};
 ghost use Rattle.std.proofs.Common.{rules};
 

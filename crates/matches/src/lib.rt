@@ -1,4 +1,6 @@
 // Matches on an accepted image, and the value at a place.
+#![tactic(auto)]
+
 ghost use Rattle.std.specs.Prelude.{◌≡◌, ◌^◌, ◌<◌, ◌≤◌, IfSome, IfOk, Some, None, MatchResult};
 ghost use Rattle.keys.specs.Blocks.{block_of, cut};
 ghost use Rattle.matches.specs.Asked.{as_entry, asked, found, place_in, refusal, register_of, seen, value_at};

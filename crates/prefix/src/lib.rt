@@ -1,4 +1,6 @@
 // Prefixes: the trait of a kind of prefix, and two kinds.
+#![tactic(auto)]
+
 ghost use Rattle.std.specs.Prelude.{◌≡◌, ℕ, ◌^◌, ◌<◌, ◌≤◌};
 ghost use Rattle.keys.specs.Blocks.{block_of, contains as holds, first_bits};
 

@@ -1,5 +1,7 @@
 // Reads a table of cases from standard input, runs `accept` on the lists of each, and compares its
 // answer with the one that the table has. docs/COMPARISON.md has the form of the table.
+#![tactic(auto)]
+
 mod case;
 mod judge;
 mod nodelist;

@@ -1,5 +1,7 @@
 // Serves measurements of the library's calls on a set of files: `FOLDER SET [KEYS]`, and then a
 // command on each line of standard input. docs/MEASUREMENT.md has the files and the commands.
+#![tactic(auto)]
+
 mod bench;
 mod digest;
 mod files;

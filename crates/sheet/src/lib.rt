@@ -1,4 +1,6 @@
 // Sheets: the text form of an address-block image.
+#![tactic(auto)]
+
 pub mod column;
 pub mod error;
 pub mod head;

@@ -1,4 +1,6 @@
 // The bits of a node: which bit a block or a child has, where its value stands, and the masks of a path.
+#![tactic(auto)]
+
 pub mod common;
 pub mod key;
 pub mod loc;

@@ -1,4 +1,6 @@
 // Examples that are run.
+#![tactic(auto)]
+
 #[cfg(test)]
 mod acceptance {
     use accept::accept::accept;

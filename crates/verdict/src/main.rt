@@ -1,4 +1,6 @@
 // Reads a sheet from standard input and says whether its image is accepted, or which fault it has.
+#![tactic(auto)]
+
 use judge::judge;
 use sheet::error::ReadError;
 use std::io;

@@ -12,10 +12,10 @@ returns c =
     let w : ℕ = c.args.width in
     let n : ℕ = c.args.len in
     let a : ℕ = c.args.key in
-    let m : ℕ = c.mask-from-prefix-len.result in
+    let m : ℕ = c.mask_from_prefix_len.result in
     let fits : a < 2 ^ w = omega arith in
     let bits : min w 64 ≡ w = omega arith in
-    let made : bit_and a m ≡ cut w n a = masked_cut w n a a m fits refl (c.mask-from-prefix-len.ensures ∙ ap (λ t. mask_of t n) bits) in
+    let made : bit_and a m ≡ cut w n a = masked_cut w n a a m fits refl (c.mask_from_prefix_len.ensures ∙ ap (λ t. mask_of t n) bits) in
     record {
       zeros = made;
       agrees = ap (λ t. t / 2 ^ (w - n)) made ∙ first_bits_cut w n n a (le_refl n);

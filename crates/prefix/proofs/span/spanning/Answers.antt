@@ -21,11 +21,11 @@ pub returns : goal.returns
 returns c =
     let n : ℕ = c.args.len in
     let a : ℕ = c.args.address in
-    let mask : ℕ = c.mask-from-prefix-len-mask.result in
+    let mask : ℕ = c.mask_from_prefix_len-mask.result in
     let first : bit_and c.from.result mask ≡ cut 32 n a =
-    masked_cut 32 n a c.from.result mask (omega arith) c.from.ensures c.mask-from-prefix-len-mask.ensures in
+    masked_cut 32 n a c.from.result mask (omega arith) c.from.ensures c.mask_from_prefix_len-mask.ensures in
     record {
-      length = omega (arith, made_length n (bit_and c.from.result mask) c.from-2.result mask c.from-2.ensures c.mask-from-prefix-len-mask.ensures);
+      length = omega (arith, made_length n (bit_and c.from.result mask) c.from-2.result mask c.from-2.ensures c.mask_from_prefix_len-mask.ensures);
       zeros = first;
       agrees = ap (λ t. t / 2 ^ (32 - n)) first ∙ first_bits_cut 32 n n a (le_refl n);
     }

@@ -24,8 +24,8 @@ loop-j-preserved c =
     let n = c.args.n in
     let j = c.loop-j.j in (
       ap (λ (r : ℕ). r / 10) inv.0 ∙ next_rest n j ∙ ap (λ (k : ℕ). n / 10 ^ k) (sym (add-one j)),
-      length-set c.loop-j.text (10 - j) c.mark-of.result ∙ inv.1,
-      ap (λ (m : ℕ). drop (11 - (j + 1)) (set c.loop-j.text (10 - j) m)) c.mark-of.ensures
+      length-set c.loop-j.text (10 - j) c.mark_of.result ∙ inv.1,
+      ap (λ (m : ℕ). drop (11 - (j + 1)) (set c.loop-j.text (10 - j) m)) c.mark_of.ensures
           ∙ one_more n j c.loop-j.rest c.loop-j.text c.loop-j-test.true inv.0 inv.1 inv.2,
     )
 

@@ -20,8 +20,8 @@ returns-in-err-rest c =
 
 pub returns : goal.returns
 returns c = (
-  c.in-ok-n.ensures.0,
-  MatchOption-at_some _ _ _ c.in-ok-rest.was
-      (strip_prefix_is Decides-eqb c.args.text.now c.format-column.result c.strip-prefix.result c.strip-prefix.ensures.cases)
-      ∙ ap (λ (u : List ℕ). u ++ c.in-ok-rest.rest.now) c.format-column.ensures,
+  c.in_ok-n.ensures.0,
+  MatchOption-at_some _ _ _ c.in_ok-rest.was
+      (strip_prefix_is Decides-eqb c.args.text.now c.format_column.result c.strip_prefix.result c.strip_prefix.ensures.cases)
+      ∙ ap (λ (u : List ℕ). u ++ c.in_ok-rest.rest.now) c.format_column.ensures,
 )

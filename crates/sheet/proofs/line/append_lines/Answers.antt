@@ -26,7 +26,7 @@ loop-x-preserved g c =
     ap (λ (y : g.row.L.Denot). take i xs ++ y ∷ []) c.x-item.is ∙ sym (take_more xs i x c.loop-x-test.true) in
     moved g.L.Line.told (vec_items c.args.out.now) (take i xs ++ x ∷ []) (take (i + 1) xs) (vec_items c.append.new.out) step
     (one_more g.L.Line.told (vec_items c.args.out.now) (take i xs) x (vec_items c.loop-x.out) (vec_items c.append.new.out)
-    c.loop-x.invariant c.in-ok-append.ensures)
+    c.loop-x.invariant c.in_ok-append.ensures)
 
 pub returns : goal.returns
 returns g c =

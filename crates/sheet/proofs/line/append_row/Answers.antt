@@ -12,8 +12,8 @@ loop-n-preserved c =
     let i = c.loop-n.n-index in
     let ns = c.args.columns.now in
     let before = vec_items c.args.out.now in
-    pushed c.format-column.result c.loop-n.invariant c.in-ok-extend-from-slice.was c.extend-from-slice.ensures.items
-    ∙ ap (λ (t : List ℕ). (before ++ flat_map column (take i ns)) ++ t) c.format-column.ensures
+    pushed c.format_column.result c.loop-n.invariant c.in_ok-extend_from_slice.was c.extend_from_slice.ensures.items
+    ∙ ap (λ (t : List ℕ). (before ++ flat_map column (take i ns)) ++ t) c.format_column.ensures
     ∙ flat_map_more column before (take i ns) (get_or ns i 0)
     ∙ ap (λ (ms : List ℕ). before ++ flat_map column ms) (sym (take_more ns i 0 c.loop-n-test.true))
 
@@ -22,8 +22,8 @@ returns c =
     let ns = c.args.columns.now in
     let before = vec_items c.args.out.now in
     let all : take c.loop-n.n-index ns ≡ ns = take_all c.loop-n.n-index ns c.loop-n-test.false in (
-      All-from_get_or Small ns 0 (λ i l. (c.type-inv.columns i).fits),
-      pushed (10 ∷ []) c.loop-n.invariant c.in-ok-push.was c.push.ensures.items
+      All-from_get_or Small ns 0 (λ i l. (c.ok.columns i).fits),
+      pushed (10 ∷ []) c.loop-n.invariant c.in_ok-push.was c.push.ensures.items
           ∙ ap (λ (ms : List ℕ). (before ++ flat_map column ms) ++ 10 ∷ []) all
           ∙ append_assoc before (flat_map column ns) (10 ∷ []),
     )

@@ -21,12 +21,12 @@ returns-in-err-n c =
 pub loop-i-preserved : goal.loop-i-preserved
 loop-i-preserved c =
     let i = c.loop-i.i in
-    let n = c.in-ok-n.n in
+    let n = c.in_ok-n.n in
     let step : take (i + 1) (set c.loop-i.columns i n) ≡ take i c.loop-i.columns ++ n ∷ [] = take_more_set c.loop-i.columns i n (omega arith) in
-    let read = c.in-ok-n.ensures in (
+    let read = c.in_ok-n.ensures in (
       subst (All Small) (sym step) (All-push Small (take i c.loop-i.columns) n c.loop-i.invariant.0 read.0),
       run_more Small column (take i c.loop-i.columns) n _ _ _ c.loop-i.invariant.1 read.1
-          ∙ ap (λ (ns : List ℕ). flat_map column ns ++ c.in-ok-n.after.now) (sym step),
+          ∙ ap (λ (ns : List ℕ). flat_map column ns ++ c.in_ok-n.after.now) (sym step),
     )
 
 pub returns : goal.returns

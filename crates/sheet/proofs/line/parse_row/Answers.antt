@@ -16,5 +16,5 @@ returns-in-err-rest c =
 
 pub returns : goal.returns
 returns c =
-    let read = c.in-ok-rest.ensures in
-    closed _ c.parse-columns.new.columns c.args.text.now c.in-ok-rest.rest.now read.0 read.1 c.line-end.result c.line-end.ensures
+    let read = c.in_ok-rest.ensures in
+    closed _ c.parse_columns.new.columns c.args.text.now c.in_ok-rest.rest.now read.0 read.1 c.line_end.result c.line_end.ensures

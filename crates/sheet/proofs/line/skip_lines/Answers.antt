@@ -14,10 +14,10 @@ returns-in-err-after g c =
 pub loop-preserved : goal.loop-preserved
 loop-preserved g c =
     let read = c.loop.invariant in
-    let next = c.in-ok-after.ensures in
-    let x = c.in-ok-after.field-0-0 in
+    let next = c.in_ok-after.ensures in
+    let x = c.in_ok-after.field-0-0 in
     let all = lines_more g.L.Line.told g.L.Line.count g.met.L.Line.counted g.met.L.Line.apart
-    c.loop.counter read.0 x c.args.text.now c.loop.rest.now c.in-ok-after.after.now
+    c.loop.counter read.0 x c.args.text.now c.loop.rest.now c.in_ok-after.after.now
     read.1 read.2 next.0 next.1 in
     (read.0 ++ x ∷ [], all.0, all.1)
 

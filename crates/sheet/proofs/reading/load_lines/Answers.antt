@@ -37,13 +37,13 @@ pub loop-preserved : goal.loop-preserved
 loop-preserved g c =
     let told = g.L.Line.told in
     let read = c.loop.invariant in
-    let x = c.in-ok-x.x in
-    let after = c.in-ok-x.after.now in
+    let x = c.in_ok-x.x in
+    let after = c.in_ok-x.after.now in
     let next =
-    taken_as (λ y. Fit (told y)) (λ y. line (told y)) c.loop.rest.now c.parse.result (Some (x, c.in-ok-x.after))
-    c.in-ok-x.ensures.ok-part c.parse.ensures in
+    taken_as (λ y. Fit (told y)) (λ y. line (told y)) c.loop.rest.now c.parse.result (Some (x, c.in_ok-x.after))
+    c.in_ok-x.ensures.ok_part c.parse.ensures in
     let kept : vec_items c.push.new.self ≡ vec_items c.loop.items ++ x ∷ [] =
-    pushed (x ∷ []) refl c.in-ok-push.was c.push.ensures.items in
+    pushed (x ∷ []) refl c.in_ok-push.was c.push.ensures.items in
     let all = lines_more told g.L.Line.count g.met.L.Line.counted g.met.L.Line.apart
     c.loop.counter (vec_items c.loop.items) x c.args.text.now c.loop.rest.now after
     read.0 read.1 next.0 next.1 in

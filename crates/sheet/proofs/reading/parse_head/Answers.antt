@@ -11,7 +11,7 @@ returns-in-err-head c =
 
 pub returns-else-allowed : goal.returns-else-allowed
 returns-else-allowed c h t a e =
-    let head = c.in-ok-head.head in
-    let read = c.in-ok-head.ensures in
-    let same : h ≡ head = (heads_cancel h head t c.in-ok-head.rest.now (allowed_fit h a) read.0 (sym e ∙ read.1)).0 in
+    let head = c.in_ok-head.head in
+    let read = c.in_ok-head.ensures in
+    let same : h ≡ head = (heads_cancel h head t c.in_ok-head.rest.now (allowed_fit h a) read.0 (sym e ∙ read.1)).0 in
     both_ways c.allowed.result c.if-allowed.false (c.allowed.ensures.1 (subst Allowed same a))

@@ -49,9 +49,9 @@ returns c =
     let seen = c.in-Some.ensures.surveyed in
     let d = seen.0 in
     let h = c.in-Some.head in
-    let nodes = c.in-ok-nodes.ensures in
-    let values = c.in-ok-values.ensures in
-    let m : Contents = record { width = h.width; nodes = vec_items c.in-ok-nodes.nodes; values = vec_items c.in-ok-values.values } in
+    let nodes = c.in_ok-nodes.ensures in
+    let values = c.in_ok-values.ensures in
+    let m : Contents = record { width = h.width; nodes = vec_items c.in_ok-nodes.nodes; values = vec_items c.in_ok-values.values } in
     let same : d ≡ m =
     same_contents d m (ap (λ (x : Head). x.width) seen.2)
     (nodes_are h m.nodes c.in-Some.nodes.now nodes.1.0 d seen.1 seen.2 seen.4 nodes.0 nodes.1.1).0

@@ -9,6 +9,6 @@ pub returns : goal.returns
 returns c =
     let rule = rule_of c.args.rule in
     let l = c.min-level.result in
-    let v = c.next-four.result in
+    let v = c.next_four.result in
     table_mask rule _ l v c.table-table.ensures (search rules) (search rules)
-    ∙ ap₂ (λ (x y : ℕ). mask (rule x y)) (search rules) c.next-four.ensures
+    ∙ ap₂ (λ (x y : ℕ). mask (rule x y)) (search rules) c.next_four.ensures

@@ -8,4 +8,4 @@ returns-in-err-rest c = rw c.from-residual.ensures (λ x t g e. c.in-err-rest.en
 
 pub returns : goal.returns
 returns c =
-    row_spread 1 c.parse-row.new.columns c.args.text.now c.in-ok-rest.rest.now c.in-ok-rest.ensures
+    row_spread 1 c.parse_row.new.columns c.args.text.now c.in_ok-rest.rest.now c.in_ok-rest.ensures
