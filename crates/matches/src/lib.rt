@@ -21,8 +21,8 @@ mod search;
 
 // The widened key and the length that a query shows, where its kind has the image's width.
 fn key_and_len<P: Prefix, T>(image: &Image<T>, q: &P) -> Result<(u64, u32), ArchiveError>
-    ensures shown { IfOk result (λ x. (x.0 ≡ P.Prefix.raw q.now) × (x.1 ≡ P.Prefix.shown q.now) × (R-as-Key.width ≡ image.now.width) × (x.0 < 2 ^ image.now.width) × (x.1 ≤ image.now.width)) }
-    ensures gate { MatchResult result (λ _. refusal image.now.width R-as-Key.width (P.Prefix.shown q.now) ≡ None) (λ e. refusal image.now.width R-as-Key.width (P.Prefix.shown q.now) ≡ Some (number e)) }
+    ensures shown { IfOk result (λ x. (x.0 ≡ P.Prefix.raw q.now) × (x.1 ≡ P.Prefix.shown q.now) × (P.R.Key.width ≡ image.now.width) × (x.0 < 2 ^ image.now.width) × (x.1 ≤ image.now.width)) }
+    ensures gate { MatchResult result (λ _. refusal image.now.width P.R.Key.width (P.Prefix.shown q.now) ≡ None) (λ e. refusal image.now.width P.R.Key.width (P.Prefix.shown q.now) ≡ Some (number e)) }
 {
     if P::R::bits() != image.width() {
         return Err(ArchiveError::KeyWidthDiffers);
@@ -36,7 +36,7 @@ fn key_and_len<P: Prefix, T>(image: &Image<T>, q: &P) -> Result<(u64, u32), Arch
 
 // What a search found: a prefix of the query's kind, made of the key without its bits past the length, and its place.
 fn made<P: Prefix>(width: u32, key: u64, hit: Option<Found>) -> Option<(P, u32)>
-    requires { (R-as-Key.width ≡ width) × ((key < 2 ^ width) × (IfSome hit (λ f. f.len ≤ width))) }
+    requires { (P.R.Key.width ≡ width) × ((key < 2 ^ width) × (IfSome hit (λ f. f.len ≤ width))) }
     ensures { option_map (as_entry width P.Prefix.raw P.Prefix.shown) result ≡ option_map (entry_of width key) hit }
 {
     let f = hit?;
@@ -55,7 +55,7 @@ fn cut_key(width: u32, key: u64, len: u8) -> u64
 
 // The place of the entry with the query's block.
 pub fn get<P: Prefix, T>(image: &Image<T>, q: &P) -> Result<Option<u32>, ArchiveError>
-    ensures entry { answer result ≡ asked image.now.width R-as-Key.width (P.Prefix.shown q.now) (place_in (exact (block_of image.now.width (P.Prefix.raw q.now) (P.Prefix.shown q.now)) (register_of image.now))) }
+    ensures entry { answer result ≡ asked image.now.width P.R.Key.width (P.Prefix.shown q.now) (place_in (exact (block_of image.now.width (P.Prefix.raw q.now) (P.Prefix.shown q.now)) (register_of image.now))) }
     ensures same { (image.now ≡ image.now) × (q.now ≡ q.now) }
 {
     let (key, len) = key_and_len(image, q)?;
@@ -64,7 +64,7 @@ pub fn get<P: Prefix, T>(image: &Image<T>, q: &P) -> Result<Option<u32>, Archive
 
 // The longest entry that contains the query's block, as a prefix of the query's kind, and its place.
 pub fn get_lpm<P: Prefix, T>(image: &Image<T>, q: &P) -> Result<Option<(P, u32)>, ArchiveError>
-    ensures entry { seen (option_map (as_entry image.now.width P.Prefix.raw P.Prefix.shown)) (answer result) ≡ asked image.now.width R-as-Key.width (P.Prefix.shown q.now) (found (longest image.now.width (block_of image.now.width (P.Prefix.raw q.now) (P.Prefix.shown q.now)) (register_of image.now))) }
+    ensures entry { seen (option_map (as_entry image.now.width P.Prefix.raw P.Prefix.shown)) (answer result) ≡ asked image.now.width P.R.Key.width (P.Prefix.shown q.now) (found (longest image.now.width (block_of image.now.width (P.Prefix.raw q.now) (P.Prefix.shown q.now)) (register_of image.now))) }
     ensures same { (image.now ≡ image.now) × (q.now ≡ q.now) }
 {
     let (key, len) = key_and_len(image, q)?;
@@ -73,7 +73,7 @@ pub fn get_lpm<P: Prefix, T>(image: &Image<T>, q: &P) -> Result<Option<(P, u32)>
 
 // The shortest entry that contains the query's block, as a prefix of the query's kind, and its place.
 pub fn get_spm<P: Prefix, T>(image: &Image<T>, q: &P) -> Result<Option<(P, u32)>, ArchiveError>
-    ensures entry { seen (option_map (as_entry image.now.width P.Prefix.raw P.Prefix.shown)) (answer result) ≡ asked image.now.width R-as-Key.width (P.Prefix.shown q.now) (found (shortest image.now.width (block_of image.now.width (P.Prefix.raw q.now) (P.Prefix.shown q.now)) (register_of image.now))) }
+    ensures entry { seen (option_map (as_entry image.now.width P.Prefix.raw P.Prefix.shown)) (answer result) ≡ asked image.now.width P.R.Key.width (P.Prefix.shown q.now) (found (shortest image.now.width (block_of image.now.width (P.Prefix.raw q.now) (P.Prefix.shown q.now)) (register_of image.now))) }
     ensures same { (image.now ≡ image.now) × (q.now ≡ q.now) }
 {
     let (key, len) = key_and_len(image, q)?;

@@ -75,7 +75,7 @@ mod sheets {
                 assert_eq!(rt; seen, e, "{}", text);
                 Ok(())
             },
-            _ => Err(Fail::new("not refused")).note(text),
+            _ => Err(Fail::new(format_args!("not refused: {text}"))),
         }
     }
 

@@ -8,4 +8,4 @@ pub returns : goal.returns
 returns c =
     let w : ℕ = c.args.width in
     let whole : min w 64 ≡ w = omega arith in
-    masked_cut w c.args.len c.args.key c.args.key c.mask-from-prefix-len.result c.requires.1 refl (c.mask-from-prefix-len.ensures ∙ ap (λ (t : ℕ). mask_of t c.args.len) whole)
+    masked_cut w c.args.len c.args.key c.args.key c.mask_from_prefix_len.result c.requires.1 refl (c.mask_from_prefix_len.ensures ∙ ap (λ (t : ℕ). mask_of t c.args.len) whole)

@@ -5,12 +5,12 @@ use Rattle.tree.proofs.Meaning.{right}
 use Rattle.tree.specs.Verdict.{verdict}
 use Rattle.accept.proofs.verify.verify.Goals as goal
 
-pub returns-in-err-test-limits : goal.returns-in-err-test-limits
-returns-in-err-test-limits c =
-    let v : answer c.from-residual.result ≡ verdict c.args.width c.args.nodes.now c.args.values = search rules in
+pub returns-in_err-test_limits : goal.returns-in_err-test_limits
+returns-in_err-test_limits c =
+    let v : answer c.from_residual.result ≡ verdict c.args.width c.args.nodes.now c.args.values = search rules in
     record { verdict = v; meaning = right _ _ _ _ v }
 
 pub returns : goal.returns
 returns c =
-    let v : answer c.verify-nodes.result ≡ verdict c.args.width c.args.nodes.now c.args.values = search rules in
+    let v : answer c.verify_nodes.result ≡ verdict c.args.width c.args.nodes.now c.args.values = search rules in
     record { verdict = v; meaning = right _ _ _ _ v }

@@ -30,7 +30,7 @@ loop-i-preserved c =
     let lt = c.loop-i-test.true in
     let e = c.enter-here.ensures in
     let a = c.advance-at.ensures in
-    let passed = c.in-ok-test-node.ensures in
+    let passed = c.in_ok-test_node.ensures in
     let data-at = e.0 ∙ inv.1 in
     let child-at = e.1.0 ∙ inv.2 in
     let depth-at = e.1.1.0 ∙ entered_depth ns i _ _ inv.3 inv.4 in
@@ -44,15 +44,15 @@ loop-i-preserved c =
       omega (arith, a.1.1.0, clear.in_key, c.requires.0),
     )
 
-pub returns-in-err-test-node : goal.returns-in-err-test-node
-returns-in-err-test-node c =
+pub returns-in_err-test_node : goal.returns-in_err-test_node
+returns-in_err-test_node c =
     let ns = c.args.nodes.now in
     let i = c.loop-i.i in
     let inv = c.loop-i.invariant in
     let e = c.enter-here.ensures in
     let depth-at = e.1.1.0 ∙ entered_depth ns i _ _ inv.3 inv.4 in
-    let refusal = c.in-err-test-node.ensures in
-    let p = err_from_is_err_and c.from-residual.result c.from-residual.ensures.1 in
+    let refusal = c.in_err-test_node.ensures in
+    let p = err_from_is_err_and c.from_residual.result c.from_residual.ensures.1 in
     rw (p.1, p.2) (first_left (faults_before c.args.width ns (length ns)) _ _ (first_at c.args.width ns i (length ns) _ c.loop-i-test.true inv.0 (rw (depth-at, e.0 ∙ inv.1, e.1.0 ∙ inv.2) at refusal)))
 
 pub returns : goal.returns
@@ -64,4 +64,4 @@ returns c =
     let before : faults_before c.args.width ns (length ns) ≡ [] = ap (λ (k : ℕ). faults_before c.args.width ns k) (sym all) ∙ inv.0 in
     let called = inv.2 ∙ ap (λ (l : List Node). 1 + child_ones l) whole in
     let bits = inv.1 ∙ ap data_ones whole in
-    rw (before, ← called, ← bits) c.test-totals.ensures
+    rw (before, ← called, ← bits) c.test_totals.ensures

@@ -19,10 +19,10 @@ returns g c =
     let sound = sound_of c.args.image.now in
     let at = c.args.at in
     let bits : ℕ → ℕ = λ w. five_bits w c.args.depth c.args.key in
-    child_on sound c.requires c.index-of.result c.if-len-depth.false (
-    c.index-of.ensures
+    child_on sound c.requires c.index_of.result c.if-len-depth.false (
+    c.index_of.ensures
     ∙ (ap (option_map (λ l. l.idx)) (
-    c.child-loc.ensures
-    ∙ (ap (λ (l : List Node). loc_of (node_at l at).child_bitmap (node_at l at).children_idx c.child-bit.result) c.nodes.ensures
-    ∙ ap (λ (b : ℕ). loc_of (node_at c.args.image.now.nodes.now at).child_bitmap (node_at c.args.image.now.nodes.now at).children_idx b) (c.child-bit.ensures ∙ ap bits c.width.ensures)))
+    c.child_loc.ensures
+    ∙ (ap (λ (l : List Node). loc_of (node_at l at).child_bitmap (node_at l at).children_idx c.child_bit.result) c.nodes.ensures
+    ∙ ap (λ (b : ℕ). loc_of (node_at c.args.image.now.nodes.now at).child_bitmap (node_at c.args.image.now.nodes.now at).children_idx b) (c.child_bit.ensures ∙ ap bits c.width.ensures)))
     ∙ child_index sound c.requires))

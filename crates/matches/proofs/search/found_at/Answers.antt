@@ -6,16 +6,16 @@ use Rattle.matches.proofs.Steps.{found_here, hit_node}
 use Rattle.matches.specs.declared.search.Found.{Found}
 use Rattle.matches.proofs.search.found_at.Goals as goal
 
-pub place-in-requires : goal.place-in-requires
-place-in-requires g c = (hit_node (sound_of c.args.image.now) c.args.hit c.requires).0
+pub place_in-requires : goal.place_in-requires
+place_in-requires g c = (hit_node (sound_of c.args.image.now) c.args.hit c.requires).0
 
-pub returns-in-err-place : goal.returns-in-err-place
-returns-in-err-place g c =
+pub returns-in_err-place : goal.returns-in_err-place
+returns-in_err-place g c =
     let F : ℕ → Found = λ place. record { place = place; len = c.args.hit.len } in
-    c.from-residual.ensures
-    ∙ (ap (option_map F) (sym c.in-err-place.was) ∙ found_here (sound_of c.args.image.now) c.args.hit c.requires c.place-in.ensures)
+    c.from_residual.ensures
+    ∙ (ap (option_map F) (sym c.in_err-place.was) ∙ found_here (sound_of c.args.image.now) c.args.hit c.requires c.place_in.ensures)
 
 pub returns : goal.returns
 returns g c =
     let F : ℕ → Found = λ place. record { place = place; len = c.args.hit.len } in
-    ap (option_map F) (sym c.in-ok-place.was) ∙ found_here (sound_of c.args.image.now) c.args.hit c.requires c.place-in.ensures
+    ap (option_map F) (sym c.in_ok-place.was) ∙ found_here (sound_of c.args.image.now) c.args.hit c.requires c.place_in.ensures

@@ -14,9 +14,9 @@ returns g c =
     let at = c.args.at in
     let n : ℕ = c.args.len in
     let slot : ℕ → ℕ = λ w. 2 ^ (n % 5) - 1 + first_bits w n c.args.key % 2 ^ (n % 5) in
-    c.index-of.ensures
+    c.index_of.ensures
     ∙ (ap (option_map (λ l. l.idx)) (
-    c.data-loc.ensures
-    ∙ (ap (λ (l : List Node). loc_of (node_at l at).data_bitmap (node_at l at).data_idx c.data-bit.result) c.nodes.ensures
-    ∙ ap (λ (b : ℕ). loc_of (node_at c.args.image.now.nodes.now at).data_bitmap (node_at c.args.image.now.nodes.now at).data_idx b) (c.data-bit.ensures ∙ ap slot c.width.ensures)))
+    c.data_loc.ensures
+    ∙ (ap (λ (l : List Node). loc_of (node_at l at).data_bitmap (node_at l at).data_idx c.data_bit.result) c.nodes.ensures
+    ∙ ap (λ (b : ℕ). loc_of (node_at c.args.image.now.nodes.now at).data_bitmap (node_at c.args.image.now.nodes.now at).data_idx b) (c.data_bit.ensures ∙ ap slot c.width.ensures)))
     ∙ slot_place (sound_of c.args.image.now) c.args.key n at c.requires)

@@ -13,14 +13,14 @@ bounds-nodes-at g c =
     let P : List Node → Type 0 = λ l. c.args.at < length l in
     subst P (sym c.nodes.ensures) (node_in (sound_of c.args.image.now) c.requires)
 
-pub hit-in-requires : goal.hit-in-requires
-hit-in-requires g c = (
+pub hit_in-requires : goal.hit_in-requires
+hit_in-requires g c = (
   omega (arith, c.requires.short, c.requires.reached, c.args.image.now.narrow),
-  met_below 32 _ _ c.shortest-bit-bit.result c.shortest-bit-bit.ensures (lowest_met 32 _),
+  met_below 32 _ _ c.shortest_bit-bit.result c.shortest_bit-bit.ensures (lowest_met 32 _),
 )
 
 pub returns : goal.returns
 returns g c =
     let bits : List Node → ℕ = λ l. (node_at l c.args.at).data_bitmap in
-    shortest_hit (sound_of c.args.image.now) c.requires c.hit-in.ensures
-    (c.shortest-bit-bit.ensures ∙ ap₂ (λ (l : List Node) (w : ℕ). first_bit (bits l) w c.args.depth c.args.key c.args.len) c.nodes.ensures c.width.ensures)
+    shortest_hit (sound_of c.args.image.now) c.requires c.hit_in.ensures
+    (c.shortest_bit-bit.ensures ∙ ap₂ (λ (l : List Node) (w : ℕ). first_bit (bits l) w c.args.depth c.args.key c.args.len) c.nodes.ensures c.width.ensures)

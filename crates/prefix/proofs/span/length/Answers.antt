@@ -3,8 +3,8 @@ use Rattle.std.proofs.Common.{refl}
 use Rattle.prefix.specs.SpansLemmas.{span_cut, span_le, span_of}
 use Rattle.prefix.proofs.span.length.Goals as goal
 
-pub overflow-sub-result : goal.overflow-sub-result
-overflow-sub-result c = span_le c.args.span.now.first c.args.span.now.last c.args.span.now.block
+pub overflow_sub-result : goal.overflow_sub-result
+overflow_sub-result c = span_le c.args.span.now.first c.args.span.now.last c.args.span.now.block
 
 pub returns : goal.returns
 returns c =

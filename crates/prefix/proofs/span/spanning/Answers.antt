@@ -7,15 +7,15 @@ use Rattle.prefix.proofs.Masks.{masked_cut}
 use Rattle.prefix.specs.SpansLemmas.{aligned_from, made_length, span_made}
 use Rattle.prefix.proofs.span.spanning.Goals as goal
 
-pub invariant-of-result : goal.invariant-of-result
-invariant-of-result c =
+pub invariant_of-result : goal.invariant_of-result
+invariant_of-result c =
     let n : ℕ = c.args.len in
     let a : ℕ = c.args.address in
-    let mask : ℕ = c.mask-from-prefix-len-mask.result in
+    let mask : ℕ = c.mask_from_prefix_len-mask.result in
     let below : a < 2 ^ 32 = omega arith in
     let first : bit_and c.from.result mask ≡ cut 32 n a =
-    masked_cut 32 n a c.from.result mask below c.from.ensures c.mask-from-prefix-len-mask.ensures in
-    (aligned_from _ _ (span_made n a _ _ mask below c.from-2.ensures c.mask-from-prefix-len-mask.ensures first), tt)
+    masked_cut 32 n a c.from.result mask below c.from.ensures c.mask_from_prefix_len-mask.ensures in
+    record { block = aligned_from _ _ (span_made n a _ _ mask below c.from-2.ensures c.mask_from_prefix_len-mask.ensures first) }
 
 pub returns : goal.returns
 returns c =

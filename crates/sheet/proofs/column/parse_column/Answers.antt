@@ -6,17 +6,17 @@ use Rattle.sheet.specs.Columns.{column}
 use Rattle.sheet.proofs.column.parse_column.Goals as goal
 use Rattle.std.proofs.lemmas.Bool.Decides.{Decides-eqb}
 
-pub returns-in-err-n : goal.returns-in-err-n
-returns-in-err-n c = rw c.from-residual.ensures c.in-err-n.ensures
+pub returns-in_err-n : goal.returns-in_err-n
+returns-in_err-n c = rw c.from_residual.ensures c.in_err-n.ensures
 
-pub returns-in-err-rest : goal.returns-in-err-rest
-returns-in-err-rest c =
-    rw c.from-residual-in-err-rest.ensures
+pub returns-in_err-rest : goal.returns-in_err-rest
+returns-in_err-rest c =
+    rw c.from_residual-in_err-rest.ensures
     (λ n t h e.
-    MatchOption-at_none _ _ c.in-err-rest.was
-    (strip_prefix_is Decides-eqb c.args.text.now c.format-column.result c.strip-prefix.result c.strip-prefix.ensures.cases)
+    MatchOption-at_none _ _ c.in_err-rest.was
+    (strip_prefix_is Decides-eqb c.args.text.now c.format_column.result c.strip_prefix.result c.strip_prefix.ensures.cases)
     t
-    (e ∙ ap (λ (m : ℕ). column m ++ t) (c.in-ok-n.ensures.1 n t h e) ∙ ap (λ (u : List ℕ). u ++ t) (sym c.format-column.ensures)))
+    (e ∙ ap (λ (m : ℕ). column m ++ t) (c.in_ok-n.ensures.1 n t h e) ∙ ap (λ (u : List ℕ). u ++ t) (sym c.format_column.ensures)))
 
 pub returns : goal.returns
 returns c = (

@@ -22,7 +22,7 @@ returns c =
     let ns = c.args.columns.now in
     let before = vec_items c.args.out.now in
     let all : take c.loop-n.n-index ns ≡ ns = take_all c.loop-n.n-index ns c.loop-n-test.false in (
-      All-from_get_or Small ns 0 (λ i l. (c.ok.columns i).fits),
+      All-from_get_or Small ns 0 (λ i l. (c.type_inv.columns i).fits),
       pushed (10 ∷ []) c.loop-n.invariant c.in_ok-push.was c.push.ensures.items
           ∙ ap (λ (ms : List ℕ). (before ++ flat_map column ms) ++ 10 ∷ []) all
           ∙ append_assoc before (flat_map column ns) (10 ∷ []),

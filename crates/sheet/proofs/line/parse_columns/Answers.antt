@@ -8,15 +8,15 @@ use Rattle.sheet.proofs.Places.{column_cancel}
 use Rattle.sheet.proofs.Runs.{run_stops, run_more}
 use Rattle.sheet.proofs.line.parse_columns.Goals as goal
 
-pub returns-in-err-n : goal.returns-in-err-n
-returns-in-err-n c =
+pub returns-in_err-n : goal.returns-in_err-n
+returns-in_err-n c =
     let i = c.loop-i.i in
     let ns = take i c.loop-i.columns in
-    rw c.from-residual.ensures
+    rw c.from_residual.ensures
     (λ ms t g e.
     run_stops Small column column_cancel ns ms c.loop-i.rest.now t c.loop-i.invariant.0 g.0
     (omega (arith, g.1, length-take-le i c.loop-i.columns (omega arith)))
-    c.in-err-n.ensures (sym c.loop-i.invariant.1 ∙ e))
+    c.in_err-n.ensures (sym c.loop-i.invariant.1 ∙ e))
 
 pub loop-i-preserved : goal.loop-i-preserved
 loop-i-preserved c =

@@ -10,9 +10,9 @@ module _ (k : ℕ) (ns s r : List ℕ) (g : Row k ns) (e : s ≡ flat_map column
   closed None none = λ ms t h d. none t (columns_cancel k ns ms r (10 ∷ t) g h (sym e ∙ d ∙ line_parts ms t)).1
   closed (Some x) there = (g, e ∙ ap (λ (u : List ℕ). flat_map column ns ++ u) there ∙ sym (line_parts ns x.now))
 
-pub returns-in-err-rest : goal.returns-in-err-rest
-returns-in-err-rest c =
-    rw c.from-residual.ensures (λ ms t g e. c.in-err-rest.ensures ms (10 ∷ t) g (e ∙ line_parts ms t))
+pub returns-in_err-rest : goal.returns-in_err-rest
+returns-in_err-rest c =
+    rw c.from_residual.ensures (λ ms t g e. c.in_err-rest.ensures ms (10 ∷ t) g (e ∙ line_parts ms t))
 
 pub returns : goal.returns
 returns c =

@@ -3,13 +3,13 @@ use Rattle.std.proofs.Common.{[], ◌∷◌, ◌++◌, arith}
 use Rattle.sheet.proofs.Rulings.{lines_more, lines_stop}
 use Rattle.sheet.proofs.line.skip_lines.Goals as goal
 
-pub returns-in-err-after : goal.returns-in-err-after
-returns-in-err-after g c =
+pub returns-in_err-after : goal.returns-in_err-after
+returns-in_err-after g c =
     let read = c.loop.invariant in
-    rw c.from-residual.ensures
+    rw c.from_residual.ensures
     (lines_stop g.L.Line.told g.L.Line.count g.met.L.Line.counted g.met.L.Line.apart
     c.loop.counter c.args.count read.0 c.args.text.now c.loop.rest.now c.loop-test.true
-    read.1 read.2 c.in-err-after.ensures)
+    read.1 read.2 c.in_err-after.ensures)
 
 pub loop-preserved : goal.loop-preserved
 loop-preserved g c =

@@ -19,18 +19,18 @@ taken_as : {X : Type 0} (Good : X → Type 0) (text : X → List ℕ) (s : List 
     → Taken Good text s o → Taken Good text s p
 taken_as Good text s o p e t = subst (Taken Good text s) e t
 
-pub returns-in-err-x : goal.returns-in-err-x
-returns-in-err-x g c =
+pub returns-in_err-x : goal.returns-in_err-x
+returns-in_err-x g c =
     let told = g.L.Line.told in
     let read = c.loop.invariant in
-    let p = err_from_is_err_and c.from-residual.result c.from-residual.ensures.1 in
-    let fault : c.in-err-x.field-0.0 ≡ SheetMalformed = same_fault c.parse.result SheetMalformed c.in-err-x.field-0.0 c.in-err-x.ensures.value in
+    let p = err_from_is_err_and c.from_residual.result c.from_residual.ensures.1 in
+    let fault : c.in_err-x.field-0.0 ≡ SheetMalformed = same_fault c.parse.result SheetMalformed c.in_err-x.field-0.0 c.in_err-x.ensures.value in
     rw (p.1, p.2) (
       ap number fault,
       lines_stop told g.L.Line.count g.met.L.Line.counted g.met.L.Line.apart
           c.loop.counter c.args.count (vec_items c.loop.items) c.args.text.now c.loop.rest.now c.loop-test.true
           read.0 read.1
-          (taken_as (λ y. Fit (told y)) (λ y. line (told y)) c.loop.rest.now c.parse.result None c.in-err-x.ensures.ok-part c.parse.ensures),
+          (taken_as (λ y. Fit (told y)) (λ y. line (told y)) c.loop.rest.now c.parse.result None c.in_err-x.ensures.ok_part c.parse.ensures),
     )
 
 pub loop-preserved : goal.loop-preserved

@@ -5,9 +5,9 @@ use Rattle.sheet.specs.Entries.{Allowed}
 use Rattle.sheet.proofs.Pages.{allowed_fit, heads_cancel}
 use Rattle.sheet.proofs.reading.parse_head.Goals as goal
 
-pub returns-in-err-head : goal.returns-in-err-head
-returns-in-err-head c =
-    rw c.from-residual.ensures (λ h t a e. c.in-err-head.ensures h t (allowed_fit h a) e)
+pub returns-in_err-head : goal.returns-in_err-head
+returns-in_err-head c =
+    rw c.from_residual.ensures (λ h t a e. c.in_err-head.ensures h t (allowed_fit h a) e)
 
 pub returns-else-allowed : goal.returns-else-allowed
 returns-else-allowed c h t a e =

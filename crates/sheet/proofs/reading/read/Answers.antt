@@ -17,30 +17,30 @@ refused : {X : Type 0} (told : X → List ℕ) (m : ℕ) (xs : List X) (s r t : 
 refused told m xs s r t (Fault e) w g k l = absurd (l.1 xs r g k)
 refused told m xs s r t OutOfMemory w g k l = w
 
-pub returns-in-err-nodes : goal.returns-in-err-nodes
-returns-in-err-nodes c =
+pub returns-in_err-nodes : goal.returns-in_err-nodes
+returns-in_err-nodes c =
     let seen = c.in-Some.ensures.surveyed in
     let d = seen.0 in
-    let p = err_from_is_err_and c.from-residual.result c.from-residual.ensures.1 in
+    let p = err_from_is_err_and c.from_residual.result c.from_residual.ensures.1 in
     record {
       read =
           rw (p.1, p.2)
           (refused node_numbers c.in-Some.head.nodes d.nodes c.in-Some.nodes.now (lines value_numbers d.values) c.args.text.now
-          c.in-err-nodes.field-0.0 (d, seen.1, seen.3) (seen.1.1, ap (λ (h : Head). h.nodes) seen.2) seen.4 c.in-err-nodes.ensures);
+          c.in_err-nodes.field-0.0 (d, seen.1, seen.3) (seen.1.1, ap (λ (h : Head). h.nodes) seen.2) seen.4 c.in_err-nodes.ensures);
       one = c.survey.ensures.one;
     }
 
-pub returns-in-err-values : goal.returns-in-err-values
-returns-in-err-values c =
+pub returns-in_err-values : goal.returns-in_err-values
+returns-in_err-values c =
     let seen = c.in-Some.ensures.surveyed in
     let d = seen.0 in
-    let p = err_from_is_err_and c.from-residual-in-err-values.result c.from-residual-in-err-values.ensures.1 in
+    let p = err_from_is_err_and c.from_residual-in_err-values.result c.from_residual-in_err-values.ensures.1 in
     record {
       read =
           rw (p.1, p.2)
           (refused value_numbers c.in-Some.head.values d.values c.in-Some.values.now [] c.args.text.now
-          c.in-err-values.field-0.0 (d, seen.1, seen.3) (seen.1.2, ap (λ (h : Head). h.values) seen.2)
-          (seen.5 ∙ sym (append-nil (lines value_numbers d.values))) c.in-err-values.ensures);
+          c.in_err-values.field-0.0 (d, seen.1, seen.3) (seen.1.2, ap (λ (h : Head). h.values) seen.2)
+          (seen.5 ∙ sym (append-nil (lines value_numbers d.values))) c.in_err-values.ensures);
       one = c.survey.ensures.one;
     }
 

@@ -17,8 +17,8 @@ returns c =
         subst (Fits value_numbers) c.as_slice-2.ensures.value values.0,
       ),
       put_together (meaning s) c.len.result c.len-2.result c.as_slice.result.now c.as_slice-2.result.now
-          (vec_items c.new-out.result) (vec_items c.append.new.out) (vec_items c.append-lines.new.out) (vec_items c.append-lines-2.new.out)
+          (vec_items c.new-out.result) (vec_items c.append.new.out) (vec_items c.append_lines.new.out) (vec_items c.append_lines-2.new.out)
           (c.len.ensures ∙ s.nodes.ok.0) (c.len-2.ensures ∙ s.values.ok.0)
           c.as_slice.ensures.value c.as_slice-2.ensures.value c.new-out.ensures.items
-          c.in-ok-append.ensures.1 nodes.1 values.1,
+          c.in_ok-append.ensures.1 nodes.1 values.1,
     )

@@ -3,8 +3,8 @@ use Rattle.sheet.specs.Entries.{node_numbers}
 use Rattle.sheet.proofs.Rulings.{row_spread}
 use Rattle.sheet.proofs.line.NodeLine.parse.Goals as goal
 
-pub returns-in-err-rest : goal.returns-in-err-rest
-returns-in-err-rest c = rw c.from-residual.ensures (λ x t g e. c.in-err-rest.ensures (node_numbers x) t (g, refl) e)
+pub returns-in_err-rest : goal.returns-in_err-rest
+returns-in_err-rest c = rw c.from_residual.ensures (λ x t g e. c.in_err-rest.ensures (node_numbers x) t (g, refl) e)
 
 pub returns : goal.returns
 returns c =
