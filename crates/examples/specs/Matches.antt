@@ -1,6 +1,6 @@
 -- The registers of the examples, and their matches.
-use Rattle.std.specs.Prelude.{◌≡◌, ℕ, List, [], ◌∷◌, Some, None, Option}
-use Rattle.keys.specs.Blocks.{Block, block_of}
+use Rattle.std.specs.Prelude.{◌≡◌, ℕ, List, [], ◌∷◌, Some, None}
+use Rattle.keys.specs.Blocks.{block_of}
 use Rattle.register.specs.Entries.{Entry, Held, exact, longest, shortest}
 use Rattle.register.specs.Register.{register}
 use Rattle.examples.specs.Images.{image_s, image_z, image_o}

@@ -1,5 +1,5 @@
 -- A known width that is neither 8 nor 16 is 32, and the verdict at 32 is then the verdict.
-use Rattle.std.proofs.Common.{◌≡◌, ℕ, true, ◌||◌, eqb, List, length, sym, ap, ◌∙◌}
+use Rattle.std.proofs.Common.{◌≡◌, ℕ, true, List, length, sym, ap, ◌∙◌}
 use Rattle.std.proofs.lemmas.Bool.{eqb-true, ne_eqb}
 use Rattle.nodes.specs.Faults.{Answer}
 use Rattle.nodes.specs.declared.node.Node.{Node}

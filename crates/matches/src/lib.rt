@@ -56,7 +56,7 @@ fn cut_key(width: u32, key: u64, len: u8) -> u64
 // The place of the entry with the query's block.
 pub fn get<P: Prefix, T>(image: &Image<T>, q: &P) -> Result<Option<u32>, ArchiveError>
     ensures entry { answer result ≡ asked image.now.width P.R.Key.width (P.Prefix.shown q.now) (place_in (exact (block_of image.now.width (P.Prefix.raw q.now) (P.Prefix.shown q.now)) (register_of image.now))) }
-    ensures same { (image.now ≡ image.now) × (q.now ≡ q.now) }
+    ensures same { (image.exit.now ≡ image.entry.now) × (q.exit.now ≡ q.entry.now) }
 {
     let (key, len) = key_and_len(image, q)?;
     Ok(find_exact(image, key, len))
@@ -65,7 +65,7 @@ pub fn get<P: Prefix, T>(image: &Image<T>, q: &P) -> Result<Option<u32>, Archive
 // The longest entry that contains the query's block, as a prefix of the query's kind, and its place.
 pub fn get_lpm<P: Prefix, T>(image: &Image<T>, q: &P) -> Result<Option<(P, u32)>, ArchiveError>
     ensures entry { seen (option_map (as_entry image.now.width P.Prefix.raw P.Prefix.shown)) (answer result) ≡ asked image.now.width P.R.Key.width (P.Prefix.shown q.now) (found (longest image.now.width (block_of image.now.width (P.Prefix.raw q.now) (P.Prefix.shown q.now)) (register_of image.now))) }
-    ensures same { (image.now ≡ image.now) × (q.now ≡ q.now) }
+    ensures same { (image.exit.now ≡ image.entry.now) × (q.exit.now ≡ q.entry.now) }
 {
     let (key, len) = key_and_len(image, q)?;
     Ok(made(image.width(), key, find_lpm(image, key, len)))
@@ -74,7 +74,7 @@ pub fn get_lpm<P: Prefix, T>(image: &Image<T>, q: &P) -> Result<Option<(P, u32)>
 // The shortest entry that contains the query's block, as a prefix of the query's kind, and its place.
 pub fn get_spm<P: Prefix, T>(image: &Image<T>, q: &P) -> Result<Option<(P, u32)>, ArchiveError>
     ensures entry { seen (option_map (as_entry image.now.width P.Prefix.raw P.Prefix.shown)) (answer result) ≡ asked image.now.width P.R.Key.width (P.Prefix.shown q.now) (found (shortest image.now.width (block_of image.now.width (P.Prefix.raw q.now) (P.Prefix.shown q.now)) (register_of image.now))) }
-    ensures same { (image.now ≡ image.now) × (q.now ≡ q.now) }
+    ensures same { (image.exit.now ≡ image.entry.now) × (q.exit.now ≡ q.entry.now) }
 {
     let (key, len) = key_and_len(image, q)?;
     Ok(made(image.width(), key, find_spm(image, key, len)))
@@ -84,7 +84,7 @@ pub fn get_spm<P: Prefix, T>(image: &Image<T>, q: &P) -> Result<Option<(P, u32)>
 pub fn value<'a, T>(image: &Image<'a, T>, place: u32) -> Result<&'a T, ArchiveError>
     ensures value { seen (λ v. v.now) (answer result) ≡ value_at image.now.values.now place }
     ensures register { RegisterLaws image.now.width image.now.nodes.now image.now.values.now }
-    ensures same { image.now ≡ image.now }
+    ensures same { image.exit.now ≡ image.entry.now }
 {
     value_in(values_of(image), place)
 }

@@ -1,5 +1,5 @@
 -- Lists of entries, and what a register answers: as functions of a list of entries, whoever holds it.
-use Rattle.std.specs.Prelude.{ℕ, Bool, true, false, cond, ◌&&◌, List, [], ◌∷◌, ◌++◌, Some, None, Option, ◌==◌}
+use Rattle.std.specs.Prelude.{ℕ, Bool, cond, ◌&&◌, List, [], ◌∷◌, Some, None, Option, ◌==◌}
 use Rattle.keys.specs.Blocks.{Block, contains}
 
 -- a block, and what stands behind it

@@ -1,5 +1,5 @@
 -- The sheet that was read is the one whose lists were tested.
-use Rattle.std.proofs.Common.{◌≡◌, length, vec_items, sym, refl, ◌∙◌, inl}
+use Rattle.std.proofs.Common.{sym, refl, ◌∙◌, inl}
 use Rattle.std.proofs.lemmas.Result.{err_from_is_err_and}
 use Rattle.sheet.specs.Meaning.{meaning}
 use Rattle.judge.proofs.judge.Goals as goal

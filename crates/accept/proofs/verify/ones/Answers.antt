@@ -1,5 +1,5 @@
 -- The kit's count is the count over 32 bits.
-use Rattle.std.proofs.Common.{◌^◌, ◌<◌, ◌≤◌, sym, arith, rules}
+use Rattle.std.proofs.Common.{sym, arith, rules}
 use Rattle.nodes.proofs.Counts.{ones32_all, ones32_le}
 use Rattle.accept.proofs.verify.ones.Goals as goal
 

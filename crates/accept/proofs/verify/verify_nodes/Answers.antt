@@ -1,11 +1,10 @@
-use Rattle.std.proofs.Common.{◌≡◌, ℕ, suc, ◌+◌, ◌-◌, ◌*◌, ◌<◌, ◌≤◌, List, [], length, take, sym, ap, ◌∙◌, arith, take_all, rules}
+use Rattle.std.proofs.Common.{◌≡◌, ℕ, suc, ◌+◌, ◌-◌, List, [], length, sym, ap, ◌∙◌, arith, take_all}
 use Rattle.std.proofs.lemmas.Result.{err_from_is_err_and}
 use Rattle.nodes.proofs.Counts.{ones32_le}
 use Rattle.nodes.specs.Bitmaps.{ones32}
-use Rattle.nodes.specs.Faults.{number}
 use Rattle.nodes.specs.declared.node.Node.{Node}
 use Rattle.tree.specs.Levels.{node_at, data_ones, child_ones, depth, level, level_start}
-use Rattle.tree.specs.Verdict.{node_faults, faults_before, total_faults, first}
+use Rattle.tree.specs.Verdict.{faults_before}
 use Rattle.tree.proofs.Steps.{total_more, total_le, entered_depth, entered_next, faults_more, first_left, first_at, first_none}
 use Rattle.tree.proofs.Clear.{clear_from}
 use Rattle.accept.proofs.verify.verify_nodes.Goals as goal
