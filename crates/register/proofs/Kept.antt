@@ -3,12 +3,12 @@ use Rattle.std.proofs.Common.{◌≡◌, Bool, true, false, cond, List, [], ◌�
 use mathlib.Core.List.Memᴰ
 use mathlib.Core.List.{Memᴰ}
 use Rattle.std.specs.Option.{option_map}
-use Rattle.std.specs.List.{AllByRecursion as All}
+use Rattle.std.specs.List.{AllByRecursion}
 use Rattle.std.proofs.lemmas.Bool.{cond-true, cond-false, cond_both}
 use Rattle.register.specs.Entries.{keep, first_of, last_of}
 
 module _ {A : Type 0} where
-  pub all_mem : (P : A → Type 0) (xs : List A) (x : A) → All P xs → Memᴰ x xs → P x
+  pub all_mem : (P : A → Type 0) (xs : List A) (x : A) → AllByRecursion P xs → Memᴰ x xs → P x
   all_mem P [] x h m = absurd (Memᴰ.not-nil m)
   all_mem P (y ∷ xs) x h m =
       elim (Memᴰ.cases_cons m) [
@@ -16,7 +16,7 @@ module _ {A : Type 0} where
         | inr t ↦ all_mem P xs x h.1 t
       ]
 
-  pub all_from_mem : (P : A → Type 0) (xs : List A) → ((x : A) → Memᴰ x xs → P x) → All P xs
+  pub all_from_mem : (P : A → Type 0) (xs : List A) → ((x : A) → Memᴰ x xs → P x) → AllByRecursion P xs
   all_from_mem P [] h = tt
   all_from_mem P (x ∷ xs) h = (h x (Memᴰ.head refl), all_from_mem P xs (λ y m. h y (Memᴰ.tail m)))
 
@@ -29,11 +29,11 @@ module _ {A : Type 0} where
         by true = refl
         by false = refl
 
-    pub keep_none : (xs : List A) → All (λ x. f x ≡ false) xs → keep f xs ≡ []
+    pub keep_none : (xs : List A) → AllByRecursion (λ x. f x ≡ false) xs → keep f xs ≡ []
     keep_none [] h = refl
     keep_none (x ∷ xs) h = cond-false (f x) (x ∷ keep f xs) (keep f xs) h.0 ∙ keep_none xs h.1
 
-    pub keep_all : (xs : List A) → All (λ x. f x ≡ true) xs → keep f xs ≡ xs
+    pub keep_all : (xs : List A) → AllByRecursion (λ x. f x ≡ true) xs → keep f xs ≡ xs
     keep_all [] h = refl
     keep_all (x ∷ xs) h = cond-true (f x) (x ∷ keep f xs) (keep f xs) h.0 ∙ ap (λ (l : List A). x ∷ l) (keep_all xs h.1)
 

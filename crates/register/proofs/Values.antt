@@ -3,7 +3,7 @@ use Rattle.std.proofs.Common.{◌≡◌, ℕ, zero, suc, ◌<◌, Bool, T, List,
 use mathlib.Core.List.Memᴰ
 use mathlib.Core.List.{Memᴰ}
 use Rattle.std.specs.Option.{option_map}
-use Rattle.std.specs.List.{AllByRecursion as All}
+use Rattle.std.specs.List.{AllByRecursion}
 use Rattle.std.proofs.lemmas.List.{drop_all}
 use Rattle.std.proofs.lemmas.Bool.{cases_lt}
 use Rattle.keys.specs.Blocks.{Block, contains, before}
@@ -27,7 +27,7 @@ module _ {A : Type 0} where
   read (v ∷ vs) zero h = (v, refl, λ d. refl)
   read (v ∷ vs) (suc place) h = read vs place (le_of_suc-le-suc h)
 
-  pub strip_valued : (vs : List A) (es : List (Entry ℕ)) → All (λ e. e.item < length vs) es → map strip (valued vs es) ≡ es
+  pub strip_valued : (vs : List A) (es : List (Entry ℕ)) → AllByRecursion (λ e. e.item < length vs) es → map strip (valued vs es) ≡ es
   strip_valued vs [] h = refl
   strip_valued vs (e ∷ es) h =
       let r = read vs e.item h.0 in
@@ -76,7 +76,7 @@ module _ {A : Type 0} where
       ascending_append (holding e (drop e.item vs)) (valued vs es) (ascending_holding e (drop e.item vs)) (ascending_valued vs es h.1)
       (λ x f m n. subst (λ (y : Entry ℕ). T (before y.block f.block)) (sym (holding_from e vs x m).0) (h.0 (strip f) (valued_from vs es f n).0))
 
-  module _ (vs : List A) (es : List (Entry ℕ)) (within : All (λ e. e.item < length vs) es) where
+  module _ (vs : List A) (es : List (Entry ℕ)) (within : AllByRecursion (λ e. e.item < length vs) es) where
     strip_keep : (f : Block → Bool) → map strip (keep (λ e. f e.block) (valued vs es)) ≡ keep (λ e. f e.block) es
     strip_keep f = map_keep strip (λ e. f e.block) (valued vs es) ∙ ap (keep (λ (e : Entry ℕ). f e.block)) (strip_valued vs es within)
 

@@ -1,6 +1,6 @@
 -- Texts set one behind another: where the front text of each kind is one at most, so is the run of them.
 use Rattle.std.proofs.Common.{◌≡◌, ℕ, ◌<◌, List, [], ◌∷◌, ◌++◌, length, sym, refl, ap, ◌∙◌, append_assoc, arith}
-use Rattle.std.specs.List.{flat_map, AllByRecursion as All}
+use Rattle.std.specs.List.{flat_map, AllByRecursion}
 use Rattle.std.proofs.lemmas.List.{flat_map_more}
 
 -- a text begins with the text of one good x at most
@@ -14,7 +14,7 @@ module _ {X : Type 0} (Good : X → Type 0) (text : X → List ℕ) where
   split_first x y xs ys r t e =
       sym (append_assoc (text x) (flat_map text xs) r) ∙ e ∙ append_assoc (text y) (flat_map text ys) t
 
-  pub run_cancels : Cancels Good text → (xs ys : List X) (r t : List ℕ) → All Good xs → All Good ys → length xs ≡ length ys
+  pub run_cancels : Cancels Good text → (xs ys : List X) (r t : List ℕ) → AllByRecursion Good xs → AllByRecursion Good ys → length xs ≡ length ys
       → flat_map text xs ++ r ≡ flat_map text ys ++ t → (xs ≡ ys) × (r ≡ t)
   run_cancels one [] [] r t g h l e = (refl, e)
   run_cancels one [] (y ∷ ys) r t g h l e = absurd (omega arith)
@@ -25,7 +25,7 @@ module _ {X : Type 0} (Good : X → Type 0) (text : X → List ℕ) where
       (cc (first.0, others.0), others.1)
 
   -- where no good text stands after the run xs, no longer run begins the whole
-  pub run_stops : Cancels Good text → (xs ys : List X) (r t : List ℕ) → All Good xs → All Good ys → length xs < length ys
+  pub run_stops : Cancels Good text → (xs ys : List X) (r t : List ℕ) → AllByRecursion Good xs → AllByRecursion Good ys → length xs < length ys
       → ((x : X) (u : List ℕ) → Good x → r ≡ text x ++ u → ⊥) → flat_map text xs ++ r ≡ flat_map text ys ++ t → ⊥
   run_stops one [] [] r t g h l no' e = omega arith
   run_stops one (x ∷ xs) [] r t g h l no' e = omega arith

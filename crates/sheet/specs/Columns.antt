@@ -1,7 +1,7 @@
 -- Numbers as text: columns of eleven characters, and lines of columns.
 use Rattle.std.specs.Prelude.{◌≡◌, ℕ, zero, suc, ◌+◌, ◌/◌, ◌%◌, ◌^◌, ◌<◌, cond, ◌||◌, List, [], ◌∷◌, ◌++◌, length, Some, None, Option, ◌==◌, ◌≢◌, nat_le}
 use Rattle.std.specs.Borrow.{Bor}
-use Rattle.std.specs.List.{flat_map, AllByRecursion as All}
+use Rattle.std.specs.List.{flat_map, AllByRecursion}
 
 -- what stands j places from the right end of n's column: a digit, or a space left of the first digit
 abbrev pub mark : ℕ → ℕ → ℕ
@@ -28,7 +28,7 @@ abbrev pub Small : ℕ → Type 0
 Small n = n < 2 ^ 32
 
 abbrev pub Fit : List ℕ → Type 0
-Fit ns = All Small ns
+Fit ns = AllByRecursion Small ns
 
 -- the numbers of k columns
 abbrev pub Row : ℕ → List ℕ → Type 0
@@ -36,7 +36,7 @@ Row k ns = Fit ns × (length ns ≡ k)
 
 -- entries whose numbers all fit
 abbrev pub Fits : {X : Type 0} → (X → List ℕ) → List X → Type 0
-Fits told xs = All (λ x. Fit (told x)) xs
+Fits told xs = AllByRecursion (λ x. Fit (told x)) xs
 
 -- the entries of m lines
 abbrev pub Rows : {X : Type 0} → (X → List ℕ) → ℕ → List X → Type 0

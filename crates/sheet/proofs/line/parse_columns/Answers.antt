@@ -1,6 +1,6 @@
 -- Each turn reads one more column behind those read.
 use Rattle.std.proofs.Common.{◌≡◌, ℕ, ◌+◌, List, [], ◌∷◌, ◌++◌, take, set, sym, ap, ◌∙◌, subst, arith}
-use Rattle.std.specs.List.{flat_map, AllByRecursion as All}
+use Rattle.std.specs.List.{flat_map, AllByRecursion}
 use Rattle.std.proofs.ByRecursion.{All-push}
 use Rattle.std.proofs.lemmas.List.{take_more_set, take_all, length-take-le}
 use Rattle.sheet.specs.Columns.{column, Small}
@@ -24,7 +24,7 @@ loop-i-preserved c =
     let n = c.in_ok-n.n in
     let step : take (i + 1) (set c.loop-i.columns i n) ≡ take i c.loop-i.columns ++ n ∷ [] = take_more_set c.loop-i.columns i n (omega arith) in
     let read = c.in_ok-n.ensures in (
-      subst (All Small) (sym step) (All-push Small (take i c.loop-i.columns) n c.loop-i.invariant.0 read.0),
+      subst (AllByRecursion Small) (sym step) (All-push Small (take i c.loop-i.columns) n c.loop-i.invariant.0 read.0),
       run_more Small column (take i c.loop-i.columns) n _ _ _ c.loop-i.invariant.1 read.1
           ∙ ap (λ (ns : List ℕ). flat_map column ns ++ c.in_ok-n.after.now) (sym step),
     )
@@ -32,6 +32,6 @@ loop-i-preserved c =
 pub returns : goal.returns
 returns c =
     let all : take c.loop-i.i c.loop-i.columns ≡ c.loop-i.columns = take_all c.loop-i.i c.loop-i.columns (omega arith) in (
-      (subst (All Small) all c.loop-i.invariant.0, omega arith),
+      (subst (AllByRecursion Small) all c.loop-i.invariant.0, omega arith),
       c.loop-i.invariant.1 ∙ ap (λ (ns : List ℕ). flat_map column ns ++ c.loop-i.rest.now) all,
     )
