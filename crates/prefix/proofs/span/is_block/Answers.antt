@@ -3,7 +3,8 @@ use Rattle.std.proofs.Common.{◌≡◌, ℕ, ◌+◌, ◌-◌, ◌*◌, ◌%◌
 use Rattle.std.proofs.lemmas.Nat.{one_shl}
 use Rattle.std.proofs.lemmas.Bool.{ne_eqb}
 use Rattle.prefix.specs.Spans.{IsSpan, aligned, length_of}
-use Rattle.prefix.specs.SpansLemmas.{aligned_from, aligned_to, not_backward, other_size, right_size}
+use Rattle.prefix.specs.SpansLemmas.{aligned_to}
+use Rattle.prefix.proofs.Spans.{aligned_from, not_backward, other_size, right_size}
 use Rattle.prefix.proofs.span.is_block.Goals as goal
 
 -- the size of the code, 1 << n

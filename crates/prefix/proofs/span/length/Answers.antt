@@ -1,6 +1,6 @@
 -- The size of a span from the fact that it holds.
 use Rattle.std.proofs.Common.{refl}
-use Rattle.prefix.specs.SpansLemmas.{span_cut, span_le, span_of}
+use Rattle.prefix.proofs.Spans.{span_cut, span_le, span_of}
 use Rattle.prefix.proofs.span.length.Goals as goal
 
 pub overflow_sub-result : goal.overflow_sub-result

@@ -4,7 +4,7 @@ use lib.Bits.{bit_and}
 use Rattle.keys.specs.Blocks.{cut}
 use Rattle.prefix.proofs.Cuts.{first_bits_cut}
 use Rattle.prefix.proofs.Masks.{masked_cut}
-use Rattle.prefix.specs.SpansLemmas.{aligned_from, made_length, span_made}
+use Rattle.prefix.proofs.Spans.{aligned_from, made_length, span_made}
 use Rattle.prefix.proofs.span.spanning.Goals as goal
 
 pub invariant_of-result : goal.invariant_of-result
