@@ -6,7 +6,7 @@ use Rattle.nodes.specs.declared.node.Node.{Node}
 use Rattle.register.proofs.Hits.{covering_hits, exact_own, hit_start, hit_at, hits, spot_at}
 use Rattle.register.proofs.Laws.{register_exact, register_longest, register_shortest}
 use Rattle.register.proofs.Values.{strip}
-use Rattle.register.specs.Entries.{Entry, Held, exact, first_of, last_of, longest, shortest}
+use Rattle.register.specs.Entries.{Entry, Held, exact, first_element, last_element, longest, shortest}
 use Rattle.register.specs.Register.{Spot, entry_at, own, place_at, register}
 use Rattle.slots.specs.Picks.{highest, lowest}
 use Rattle.tree.specs.Meaning.{Sound}
@@ -15,12 +15,12 @@ use Rattle.matches.specs.Asked.{found, place_in}
 use Rattle.matches.specs.Way.{entry_of, found_of, has, picked, place_on}
 use Rattle.matches.specs.declared.search.Found.{Found}
 
-last_one : {A : Type 0} (xs : List A) (e : A) → last_of (xs ++ (e ∷ [])) ≡ Some e
+last_one : {A : Type 0} (xs : List A) (e : A) → last_element (xs ++ (e ∷ [])) ≡ Some e
 last_one [] e = refl
 last_one (x ∷ []) e = refl
 last_one (x ∷ (y ∷ xs)) e = last_one (y ∷ xs) e
 
-first_append : {A : Type 0} (xs ys : List A) → first_of (xs ++ ys) ≡ option_or (first_of xs) (first_of ys)
+first_append : {A : Type 0} (xs ys : List A) → first_element (xs ++ ys) ≡ option_or (first_element xs) (first_element ys)
 first_append [] ys = refl
 first_append (x ∷ xs) ys = refl
 
@@ -49,24 +49,24 @@ module _ (w : ℕ) (ns : List Node) (key : ℕ) where
       let back : w - (w - n) ≡ n = omega arith in
       ap (λ (k : ℕ). (record { address = cut w n key; len = k }, place)) back
 
-  last_more : (n : ℕ) (xs : List (Entry ℕ)) → n ≤ w → option_map pair_of (last_of (xs ++ hit_at w ns key n)) ≡ option_or (pair_at n) (option_map pair_of (last_of xs))
-  last_more n xs h = ap (λ (l : List (Entry ℕ)). option_map pair_of (last_of (xs ++ l))) (hit_list n) ∙ by (place_on w ns key n)
+  last_more : (n : ℕ) (xs : List (Entry ℕ)) → n ≤ w → option_map pair_of (last_element (xs ++ hit_at w ns key n)) ≡ option_or (pair_at n) (option_map pair_of (last_element xs))
+  last_more n xs h = ap (λ (l : List (Entry ℕ)). option_map pair_of (last_element (xs ++ l))) (hit_list n) ∙ by (place_on w ns key n)
     where
-      by : (o : Option ℕ) → option_map pair_of (last_of (xs ++ entry_at w (w - n) (first_bits w n key) o)) ≡ option_or (option_map (λ p. (block_of w key n, p)) o) (option_map pair_of (last_of xs))
-      by None = ap (λ (l : List (Entry ℕ)). option_map pair_of (last_of l)) (append-nil xs)
+      by : (o : Option ℕ) → option_map pair_of (last_element (xs ++ entry_at w (w - n) (first_bits w n key) o)) ≡ option_or (option_map (λ p. (block_of w key n, p)) o) (option_map pair_of (last_element xs))
+      by None = ap (λ (l : List (Entry ℕ)). option_map pair_of (last_element l)) (append-nil xs)
       by (Some p) = ap (option_map pair_of) (last_one xs _) ∙ ap (λ (x : Block × ℕ). Some x) (pair_some n p h)
 
-  first_hit : (n : ℕ) → n ≤ w → option_map pair_of (first_of (hit_at w ns key n)) ≡ pair_at n
-  first_hit n h = ap (λ (l : List (Entry ℕ)). option_map pair_of (first_of l)) (hit_list n) ∙ by (place_on w ns key n)
+  first_hit : (n : ℕ) → n ≤ w → option_map pair_of (first_element (hit_at w ns key n)) ≡ pair_at n
+  first_hit n h = ap (λ (l : List (Entry ℕ)). option_map pair_of (first_element l)) (hit_list n) ∙ by (place_on w ns key n)
     where
-      by : (o : Option ℕ) → option_map pair_of (first_of (entry_at w (w - n) (first_bits w n key) o)) ≡ option_map (λ p. (block_of w key n, p)) o
+      by : (o : Option ℕ) → option_map pair_of (first_element (entry_at w (w - n) (first_bits w n key) o)) ≡ option_map (λ p. (block_of w key n, p)) o
       by None = refl
       by (Some p) = ap (λ (x : Block × ℕ). Some x) (pair_some n p h)
 
-  first_more : (n : ℕ) (xs : List (Entry ℕ)) → n ≤ w → option_map pair_of (first_of (xs ++ hit_at w ns key n)) ≡ option_or (option_map pair_of (first_of xs)) (pair_at n)
+  first_more : (n : ℕ) (xs : List (Entry ℕ)) → n ≤ w → option_map pair_of (first_element (xs ++ hit_at w ns key n)) ≡ option_or (option_map pair_of (first_element xs)) (pair_at n)
   first_more n xs h =
       ap (option_map pair_of) (first_append xs (hit_at w ns key n))
-      ∙ (sym (mapped_or pair_of (first_of xs) (first_of (hit_at w ns key n))) ∙ ap (option_or (option_map pair_of (first_of xs))) (first_hit n h))
+      ∙ (sym (mapped_or pair_of (first_element xs) (first_element (hit_at w ns key n))) ∙ ap (option_or (option_map pair_of (first_element xs))) (first_hit n h))
 
   -- the pick of one more length
   one_more : (n : ℕ) (o : Option ℕ) → option_or (pair_at n) (picked pair_at o) ≡ picked pair_at (cond (has w ns key n) (Some n) o)
@@ -83,16 +83,16 @@ module _ (w : ℕ) (ns : List Node) (key : ℕ) where
   lowest_more n (Some m) met = or_some (λ (p : ℕ). (block_of w key m, p)) (place_on w ns key m) (pair_at n) met.1
 
   module _ (h : key < 2 ^ w) where
-    last_hits : (n : ℕ) → n ≤ w → option_map pair_of (last_of (hits w ns key n)) ≡ picked pair_at (highest (suc n) (has w ns key))
+    last_hits : (n : ℕ) → n ≤ w → option_map pair_of (last_element (hits w ns key n)) ≡ picked pair_at (highest (suc n) (has w ns key))
     unfolding highest
-    last_hits zero l = ap (λ (es : List (Entry ℕ)). option_map pair_of (last_of es)) (sym (hit_start w key h ns)) ∙ (last_more 0 [] l ∙ one_more 0 None)
+    last_hits zero l = ap (λ (es : List (Entry ℕ)). option_map pair_of (last_element es)) (sym (hit_start w key h ns)) ∙ (last_more 0 [] l ∙ one_more 0 None)
     last_hits (suc n) l =
         last_more (suc n) (hits w ns key n) l
         ∙ (ap (option_or (pair_at (suc n))) (last_hits n (omega arith)) ∙ one_more (suc n) (highest (suc n) (has w ns key)))
 
-    first_hits : (n : ℕ) → n ≤ w → option_map pair_of (first_of (hits w ns key n)) ≡ picked pair_at (lowest (suc n) (has w ns key))
+    first_hits : (n : ℕ) → n ≤ w → option_map pair_of (first_element (hits w ns key n)) ≡ picked pair_at (lowest (suc n) (has w ns key))
     unfolding lowest
-    first_hits zero l = ap (λ (es : List (Entry ℕ)). option_map pair_of (first_of es)) (sym (hit_start w key h ns)) ∙ (first_more 0 [] l ∙ lowest_more 0 None tt)
+    first_hits zero l = ap (λ (es : List (Entry ℕ)). option_map pair_of (first_element es)) (sym (hit_start w key h ns)) ∙ (first_more 0 [] l ∙ lowest_more 0 None tt)
     first_hits (suc n) l =
         first_more (suc n) (hits w ns key n) l
         ∙ (ap (λ (o : Option (Block × ℕ)). option_or o (pair_at (suc n))) (first_hits n (omega arith)) ∙ lowest_more (suc n) (lowest (suc n) (has w ns key)) (lowest_met (suc n) (has w ns key)))
@@ -116,11 +116,11 @@ module _ {A : Type 0} (w : ℕ) (ns : List Node) (vs : List A) (sound : Sound w 
   pub exact_place : place_on w ns key len ≡ place_in (exact (block_of w key len) (register w ns vs))
   exact_place = sym (
       sym (mapped_mapped strip (λ (e : Entry ℕ). e.item) (exact (block_of w key len) (register w ns vs)))
-      ∙ (ap (option_map (λ (e : Entry ℕ). e.item)) (register_exact w ns vs sound (block_of w key len) ∙ ap first_of (exact_own w ns key len h l ∙ hit_list w ns key len))
+      ∙ (ap (option_map (λ (e : Entry ℕ). e.item)) (register_exact w ns vs sound (block_of w key len) ∙ ap first_element (exact_own w ns key len h l ∙ hit_list w ns key len))
       ∙ by (place_on w ns key len))
       )
     where
-      by : (o : Option ℕ) → option_map (λ (e : Entry ℕ). e.item) (first_of (entry_at w (w - len) (first_bits w len key) o)) ≡ o
+      by : (o : Option ℕ) → option_map (λ (e : Entry ℕ). e.item) (first_element (entry_at w (w - len) (first_bits w len key) o)) ≡ o
       by None = refl
       by (Some p) = refl
 
@@ -133,7 +133,7 @@ module _ {A : Type 0} (w : ℕ) (ns : List Node) (vs : List A) (sound : Sound w 
     found_pair w ns key (highest (suc len) (has w ns key))
         ∙ sym (
         sym (mapped_mapped strip pair_of (longest w (block_of w key len) (register w ns vs)))
-        ∙ (ap (option_map pair_of) (register_longest w ns vs sound (block_of w key len) ∙ ap last_of (covering_hits w ns key len h l))
+        ∙ (ap (option_map pair_of) (register_longest w ns vs sound (block_of w key len) ∙ ap last_element (covering_hits w ns key len h l))
         ∙ last_hits w ns key h len l)
         ),
     found_within w ns key len (highest (suc len) (has w ns key)) (highest_met (suc len) (has w ns key)),
@@ -144,7 +144,7 @@ module _ {A : Type 0} (w : ℕ) (ns : List Node) (vs : List A) (sound : Sound w 
     found_pair w ns key (lowest (suc len) (has w ns key))
         ∙ sym (
         sym (mapped_mapped strip pair_of (shortest w (block_of w key len) (register w ns vs)))
-        ∙ (ap (option_map pair_of) (register_shortest w ns vs sound (block_of w key len) ∙ ap first_of (covering_hits w ns key len h l))
+        ∙ (ap (option_map pair_of) (register_shortest w ns vs sound (block_of w key len) ∙ ap first_element (covering_hits w ns key len h l))
         ∙ first_hits w ns key h len l)
         ),
     found_within w ns key len (lowest (suc len) (has w ns key)) (lowest_met (suc len) (has w ns key)),
