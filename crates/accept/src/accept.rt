@@ -12,7 +12,8 @@ use nodes::node::Node;
 pub fn accept<K: Key, T>(nodes: &[Node], values: &[T]) -> Result<(), ArchiveError>
     ensures verdict { answer result ≡ verdict K.Key.width nodes.now (length values.now) }
     ensures meaning { Right K.Key.width nodes.now (length values.now) (is_ok result) }
-    ensures same { (nodes.exit.now ≡ nodes.entry.now) × (values.exit.now ≡ values.entry.now) }
+    ensures same_nodes { nodes.exit.now ≡ nodes.entry.now }
+    ensures same_values { values.exit.now ≡ values.entry.now }
 {
     verify(K::bits(), nodes, values.len())
 }

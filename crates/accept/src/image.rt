@@ -6,7 +6,9 @@ use keys::Key;
 use nodes::node::Node;
 
 // An accepted image: a node list and a value list of any one kind, both lent, and the width of its
-// keys. There is no other way to have one than from two lists with a good verdict.
+// keys. There is no other way to have one than from two lists with a good verdict. The nodes name one
+// another by their numbers in the list, which is the image's format, and the width is a number, as
+// every definition takes it.
 #[derive(Drop)]
 pub struct Image<'a, T> {
     nodes: &'a [Node],
@@ -20,7 +22,9 @@ impl<'a, T> Image<'a, T> {
     // The image of two lists that were accepted under keys of this kind.
     pub fn new<K: Key>(nodes: &'a [Node], values: &'a [T]) -> Image<'a, T>
         requires { verdict K.Key.width nodes.now (length values.now) ≡ given tt }
-        ensures { (result.width ≡ K.Key.width) × ((result.nodes.now ≡ nodes.now) × (result.values.now ≡ values.now)) }
+        ensures width { result.width ≡ K.Key.width }
+        ensures nodes { result.nodes.now ≡ nodes.now }
+        ensures values { result.values.now ≡ values.now }
     {
         Image {
             nodes,

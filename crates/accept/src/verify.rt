@@ -12,10 +12,7 @@ const MAX_NODES: usize = 1_048_576;
 
 const MAX_VALUES: usize = 33_554_432;
 
-// The levels of a node, which are the bits of the key that it takes.
-const K: u32 = 5;
-
-// The smallest data bitmap with a bit past level m, for m from 0 to 4.
+// The smallest data bitmap with a bit past level m, for m from 0 to 4: a constant for each level.
 const DENIED_DEPTH: [u32; 5] = [2, 8, 128, 32768, 2147483648];
 
 // What the nodes before the present one call for, and how deep it stands.
@@ -30,12 +27,15 @@ struct Cursors {
 impl Cursors {
     // The cursors at node i: one level deeper where the next level begins with it.
     fn enter(self, i: u32, node: &Node) -> Cursors
-        requires { self.depth ≤ 64 }
-        ensures { (result.«data» ≡ self.«data») × ((result.child ≡ self.child) × ((result.depth ≡ (if nat_eq i self.next_depth then self.depth + 5 else self.depth)) × (result.next_depth ≡ (if nat_eq i self.next_depth then node.now.children_idx else self.next_depth)))) }
+        requires { self.depth ≤ 2 ^ 30 }
+        ensures values { result.«data» ≡ self.«data» }
+        ensures children { result.child ≡ self.child }
+        ensures level { result.depth ≡ (if nat_eq i self.next_depth then self.depth + 5 else self.depth) }
+        ensures next_level { result.next_depth ≡ (if nat_eq i self.next_depth then node.now.children_idx else self.next_depth) }
     {
         if i == self.next_depth {
             Cursors {
-                depth: self.depth + K,
+                depth: self.depth + Node::LEVELS,
                 next_depth: node.children_idx,
                 ..self
             }
@@ -46,21 +46,25 @@ impl Cursors {
 
     // The cursors behind the node.
     fn advance(self, node: &Node) -> Cursors
-        requires { (self.«data» ≤ 2 ^ 30) × (self.child ≤ 2 ^ 30) }
-        ensures { (result.«data» ≡ self.«data» + ones32 node.now.data_bitmap) × ((result.child ≡ self.child + ones32 node.now.child_bitmap) × ((result.depth ≡ self.depth) × (result.next_depth ≡ self.next_depth))) }
+        requires few_values { self.«data» ≤ 2 ^ 30 }
+        requires few_children { self.child ≤ 2 ^ 30 }
+        ensures values { result.«data» ≡ self.«data» + ones32 node.now.data_bitmap }
+        ensures children { result.child ≡ self.child + ones32 node.now.child_bitmap }
+        ensures same_level { result.depth ≡ self.depth }
+        ensures same_next_level { result.next_depth ≡ self.next_depth }
     {
-        let data = self.data + ones(node.data_bitmap);
-        let child = self.child + ones(node.child_bitmap);
         Cursors {
-            data,
-            child,
+            data: self.data + ones(node.data_bitmap),
+            child: self.child + ones(node.child_bitmap),
             ..self
         }
     }
 }
 
+#[tactic(auto, using(nodes::proofs::Counts::ones32_all, nodes::proofs::Counts::ones32_le))]
 fn ones(bitmap: u32) -> u32
-    ensures { (result ≡ ones32 bitmap) × (result ≤ 32) }
+    ensures all { result ≡ ones32 bitmap }
+    ensures few { result ≤ 32 }
 {
     bitmap.count_ones()
 }
@@ -69,7 +73,7 @@ fn ones(bitmap: u32) -> u32
 fn denied_from(room: u32) -> u32
     ensures { result ≡ 2 ^ (2 ^ (min 4 room + 1) - 1) }
 {
-    DENIED_DEPTH[room.min(K - 1) as usize]
+    DENIED_DEPTH[room.min(Node::LEVELS - 1) as usize]
 }
 
 fn is_empty(node: &Node) -> bool
@@ -137,8 +141,9 @@ fn test_limits(nodes: usize, values: usize) -> Result<(), ArchiveError>
 }
 
 // The tests of the nodes one after another, and then of the totals.
+#[tactic(auto, using(crate::proofs::Cursors::behind_none, crate::proofs::Cursors::data_ones_le, crate::proofs::Cursors::child_ones_le, crate::proofs::Cursors::behind_more, crate::proofs::Cursors::behind_all))]
 fn verify_nodes(width: u32, nodes: &[Node], values: u32) -> Result<(), ArchiveError>
-    requires { (width ≤ 64) × (length nodes.now ≤ 1048576) }
+    requires { length nodes.now ≤ 1048576 }
     ensures { answer result ≡ first (faults_before width nodes.now (length nodes.now) ++ total_faults (1 + child_ones nodes.now) (length nodes.now) (data_ones nodes.now) values) }
 {
     let mut at = Cursors {
@@ -148,16 +153,18 @@ fn verify_nodes(width: u32, nodes: &[Node], values: u32) -> Result<(), ArchiveEr
         next_depth: 1,
     };
     for (i, node) in nodes.iter().enumerate() {
-        let here = at.enter(i as u32, node);
-        test_node(width, i as u32, node, here)?;
+        // no bit is lost, so there is no error to answer as `try_from` would
+        let i = i as u32;
+        let here = at.enter(i, node);
+        test_node(width, i, node, here)?;
         at = here.advance(node);
     }
     test_totals(at, nodes.len() as u32, values)
 }
 
 // All tests, in their order.
+#[tactic(auto, using(tree::proofs::Meaning::right))]
 pub(crate) fn verify(width: u32, nodes: &[Node], values: usize) -> Result<(), ArchiveError>
-    requires { width ≤ 64 }
     ensures verdict { answer result ≡ verdict width nodes.now values }
     ensures meaning { Right width nodes.now values (is_ok result) }
 {

@@ -1,9 +1,41 @@
 // Answers, of the table and of the library.
+ghost use Rattle.std.specs.Prelude.{◌≡◌, true};
+ghost use Rattle.std.proofs.Common.{rules};
+
 use anyhow::Context;
 use keys::Key;
-use nodes::error::ArchiveError;
+use nodes::error::{ArchiveError, NoSuchFault};
 use prefix::Prefix;
 use std::fmt;
+use std::num::ParseIntError;
+use std::str::FromStr;
+
+// A refusal as the table names it: the fault with this number, or a number that no fault has.
+#[derive(Clone, Copy, PartialEq, Eq)]
+pub struct Refusal(pub Result<ArchiveError, NoSuchFault>);
+
+impl FromStr for Refusal {
+    type Err = ParseIntError;
+
+    fn from_str(word: &str) -> Result<Refusal, ParseIntError> {
+        Ok(Refusal(ArchiveError::try_from(word.parse::<u32>()?)))
+    }
+}
+
+impl From<ArchiveError> for Refusal {
+    fn from(fault: ArchiveError) -> Refusal {
+        Refusal(Ok(fault))
+    }
+}
+
+impl fmt::Display for Refusal {
+    fn fmt<W: fmt::Write>(&self, f: &mut fmt::Formatter<W>) -> fmt::Result {
+        match &self.0 {
+            Ok(fault) => write!(f, "fault {}", fault.number()),
+            Err(unknown) => write!(f, "fault {}", unknown.0),
+        }
+    }
+}
 
 // An entry that a match gives: its block and its place.
 #[derive(Clone, Copy, PartialEq, Eq)]
@@ -13,17 +45,11 @@ pub struct Entry {
     pub place: u32,
 }
 
-#[derive(Clone, Copy, PartialEq, Eq)]
-pub enum Answer {
-    Refused(u32),
-    Nothing,
-    Place(u32),
-    Found(Entry),
-}
+// `ADDRESS/LEN@PLACE`
+impl FromStr for Entry {
+    type Err = anyhow::Error;
 
-impl Entry {
-    // `ADDRESS/LEN@PLACE`
-    fn parse(word: &str) -> anyhow::Result<Entry> {
+    fn from_str(word: &str) -> anyhow::Result<Entry> {
         let (block, place) = word
             .split_once('@')
             .context("an entry is ADDRESS/LEN@PLACE")?;
@@ -36,73 +62,71 @@ impl Entry {
     }
 }
 
-impl Answer {
-    // `none` or a place
-    pub(crate) fn parse_place(word: &str) -> anyhow::Result<Answer> {
-        match word {
-            "none" => Ok(Answer::Nothing),
-            _ => Ok(Answer::Place(word.parse::<u32>()?)),
-        }
-    }
-
-    // `none` or an entry
-    pub(crate) fn parse_entry(word: &str) -> anyhow::Result<Answer> {
-        match word {
-            "none" => Ok(Answer::Nothing),
-            _ => Ok(Answer::Found(Entry::parse(word)?)),
-        }
-    }
-
-    // The place that it names.
-    pub(crate) fn place(&self) -> Option<u32> {
-        match self {
-            Answer::Place(place) => Some(*place),
-            Answer::Found(entry) => Some(entry.place),
-            _ => None,
-        }
-    }
-
-    // What the library's exact match answered.
-    pub(crate) fn of_place(res: Result<Option<u32>, ArchiveError>) -> Answer {
-        match res {
-            Ok(None) => Answer::Nothing,
-            Ok(Some(place)) => Answer::Place(place),
-            Err(e) => Answer::Refused(e.number()),
-        }
-    }
-
-    // What one of the library's two other matches answered.
-    pub(crate) fn of_entry<P: Prefix>(res: Result<Option<(P, u32)>, ArchiveError>) -> Answer {
-        match res {
-            Ok(None) => Answer::Nothing,
-            Ok(Some((prefix, place))) => Answer::Found(Entry {
-                address: prefix.repr().widen(),
-                len: prefix.prefix_len(),
-                place,
-            }),
-            Err(e) => Answer::Refused(e.number()),
-        }
-    }
-
-    // What the library answered of a place.
-    pub(crate) fn of_value(res: Result<&u32, ArchiveError>) -> Answer {
-        match res {
-            Ok(value) => Answer::Place(*value),
-            Err(e) => Answer::Refused(e.number()),
+// What the library's matches give of a prefix and its place.
+impl<P: Prefix> From<(P, u32)> for Entry {
+    fn from(hit: (P, u32)) -> Entry {
+        let (prefix, place) = hit;
+        Entry {
+            address: prefix.repr().widen(),
+            len: prefix.prefix_len(),
+            place,
         }
     }
 }
 
-impl fmt::Display for Answer {
+impl fmt::Display for Entry {
     fn fmt<W: fmt::Write>(&self, f: &mut fmt::Formatter<W>) -> fmt::Result {
-        match self {
-            Answer::Refused(n) => write!(f, "fault {n}"),
-            Answer::Nothing => write!(f, "none"),
-            Answer::Place(place) => write!(f, "{place}"),
-            Answer::Found(entry) => {
-                let (address, len, place) = (entry.address, entry.len, entry.place);
-                write!(f, "{address}/{len}@{place}")
-            }
+        write!(f, "{}/{}@{}", self.address, self.len, self.place)
+    }
+}
+
+// What a call finds, a place or an entry.
+pub trait Found: Copy + Eq + fmt::Display + Drop {
+    // The place that it names.
+    fn place(&self) -> u32;
+
+    // Values that compare equal are the same.
+    ghost same: { (x y : Self) → Self.eq x y ≡ true → x ≡ y };
+}
+
+impl Found for u32 {
+    ghost same = { Prim.search rules };
+
+    fn place(&self) -> u32 {
+        *self
+    }
+}
+
+impl Found for Entry {
+    ghost same = { Prim.search rules };
+
+    fn place(&self) -> u32 {
+        self.place
+    }
+}
+
+// What a call answers: what it finds, that it finds nothing, or a refusal.
+#[derive(Clone, Copy, PartialEq, Eq)]
+pub struct Answer<T>(pub Result<Option<T>, Refusal>);
+
+// `none`, or what is found
+impl<T: FromStr> FromStr for Answer<T> {
+    type Err = T::Err;
+
+    fn from_str(word: &str) -> Result<Answer<T>, T::Err> {
+        match word {
+            "none" => Ok(Answer(Ok(None))),
+            _ => Ok(Answer(Ok(Some(word.parse::<T>()?)))),
+        }
+    }
+}
+
+impl<T: fmt::Display> fmt::Display for Answer<T> {
+    fn fmt<W: fmt::Write>(&self, f: &mut fmt::Formatter<W>) -> fmt::Result {
+        match &self.0 {
+            Ok(None) => write!(f, "none"),
+            Ok(Some(found)) => write!(f, "{found}"),
+            Err(refusal) => write!(f, "{refusal}"),
         }
     }
 }

@@ -1,162 +1,113 @@
 // The queries of an image, asked and compared.
-use crate::answer::Answer;
+use crate::answer::{Answer, Found};
 use crate::ask::{ask_pair, ask_span, ask_value};
-use crate::pair::{AnyPair, Width};
+use crate::pair::AnyPair;
 use crate::question::{Answers, Question};
 use crate::section::Section;
 use crate::tally::{Call, Tally};
 use accept::accept::accept;
 use accept::image::Image;
 use keys::Key;
+use tables::width::Width;
 
-// Where a query stands: its line, and the width of its image.
-#[derive(Clone, Copy)]
-struct Spot {
-    line: u64,
+// A query as it is checked: its image and that image's width, its line, and the tally that counts it.
+#[derive(Drop)]
+struct Check<'a, 'b> {
+    rt: &'a HostRuntime,
+    image: &'a Image<'b, u32>,
     width: Width,
+    line: u64,
+    tally: &'a mut Tally,
 }
 
-fn compare(
-    rt: &HostRuntime,
-    spot: Spot,
-    call: Call,
-    theirs: Answer,
-    ours: Answer,
-    tally: &mut Tally,
-) -> anyhow::Result<()> {
-    if ours != theirs {
-        let line = spot.line;
-        println!(rt; "line {line}: {call}: the table has {theirs}, the library answers {ours}")?;
-    }
-    tally.count(spot.width, call, theirs, ours);
-    Ok(())
-}
-
-// The value at the place that an answer names has to be the place.
-fn check_place(
-    rt: &HostRuntime,
-    image: &Image<u32>,
-    spot: Spot,
-    answer: Answer,
-    tally: &mut Tally,
-) -> anyhow::Result<()> {
-    match answer.place() {
-        None => Ok(()),
-        Some(place) => {
-            let ours = ask_value(image, place);
-            compare(rt, spot, Call::Value, Answer::Place(place), ours, tally)
+impl<'a, 'b> Check<'a, 'b> {
+    fn compare<T: Found>(
+        &mut self,
+        call: Call,
+        theirs: &Answer<T>,
+        ours: &Answer<T>,
+    ) -> anyhow::Result<()> {
+        if ours != theirs {
+            println!(self.rt;
+                "line {}: {call}: the table has {theirs}, the library answers {ours}",
+                self.line
+            )?;
         }
+        self.tally.count(self.width, call, theirs, ours);
+        Ok(())
     }
-}
 
-fn check_pair(
-    rt: &HostRuntime,
-    image: &Image<u32>,
-    spot: Spot,
-    pair: &AnyPair,
-    theirs: Answers,
-    tally: &mut Tally,
-) -> anyhow::Result<()> {
-    let ours = ask_pair(image, pair);
-    compare(rt, spot, Call::Exact, theirs.exact, ours.exact, tally)?;
-    compare(rt, spot, Call::Longest, theirs.longest, ours.longest, tally)?;
-    compare(
-        rt,
-        spot,
-        Call::Shortest,
-        theirs.shortest,
-        ours.shortest,
-        tally,
-    )?;
-    check_place(rt, image, spot, ours.exact, tally)?;
-    check_place(rt, image, spot, ours.longest, tally)?;
-    check_place(rt, image, spot, ours.shortest, tally)
-}
-
-// The same answers through a span, where the pair has one.
-fn check_span(
-    rt: &HostRuntime,
-    image: &Image<u32>,
-    spot: Spot,
-    pair: &AnyPair,
-    theirs: Answers,
-    tally: &mut Tally,
-) -> anyhow::Result<()> {
-    let Some(span) = pair.to_span() else {
-        return Ok(());
-    };
-    let ours = ask_span(image, &span);
-    compare(rt, spot, Call::SpanExact, theirs.exact, ours.exact, tally)?;
-    compare(
-        rt,
-        spot,
-        Call::SpanLongest,
-        theirs.longest,
-        ours.longest,
-        tally,
-    )?;
-    compare(
-        rt,
-        spot,
-        Call::SpanShortest,
-        theirs.shortest,
-        ours.shortest,
-        tally,
-    )
-}
-
-fn check_question(
-    rt: &HostRuntime,
-    image: &Image<u32>,
-    spot: Spot,
-    question: &Question,
-    tally: &mut Tally,
-) -> anyhow::Result<()> {
-    match question {
-        Question::Match(pair, theirs) => {
-            check_pair(rt, image, spot, pair, *theirs, tally)?;
-            check_span(rt, image, spot, pair, *theirs, tally)
-        }
-        Question::Value(place, theirs) => {
-            let ours = ask_value(image, *place);
-            compare(rt, spot, Call::Value, *theirs, ours, tally)
-        }
-    }
-}
-
-fn check_questions(
-    rt: &HostRuntime,
-    image: &Image<u32>,
-    section: &Section,
-    tally: &mut Tally,
-) -> anyhow::Result<()> {
-    for asked in section.asked.iter() {
-        let spot = Spot {
-            line: asked.line,
-            width: section.width,
+    // The value at the place that an answer names has to be the place.
+    fn check_place<T: Found>(&mut self, answer: &Answer<T>) -> anyhow::Result<()> {
+        let Ok(Some(found)) = &answer.0 else {
+            return Ok(());
         };
-        check_question(rt, image, spot, &asked.question, tally)?;
+        self.check_value(found.place(), &Answer(Ok(Some(found.place()))))
     }
-    Ok(())
+
+    fn check_value(&mut self, place: u32, theirs: &Answer<u32>) -> anyhow::Result<()> {
+        let ours = ask_value(self.image, place);
+        self.compare(Call::Value, theirs, &ours)
+    }
+
+    fn check_pair(&mut self, pair: &AnyPair, theirs: &Answers) -> anyhow::Result<()> {
+        let ours = ask_pair(self.image, pair);
+        self.compare(Call::Exact, &theirs.exact, &ours.exact)?;
+        self.compare(Call::Longest, &theirs.longest, &ours.longest)?;
+        self.compare(Call::Shortest, &theirs.shortest, &ours.shortest)?;
+        self.tally.count_depth(self.width, &theirs.longest);
+        self.check_place(&ours.exact)?;
+        self.check_place(&ours.longest)?;
+        self.check_place(&ours.shortest)
+    }
+
+    // The same answers through a span, where the pair has one.
+    fn check_span(&mut self, pair: &AnyPair, theirs: &Answers) -> anyhow::Result<()> {
+        let Some(span) = pair.to_span() else {
+            return Ok(());
+        };
+        let ours = ask_span(self.image, &span);
+        self.compare(Call::SpanExact, &theirs.exact, &ours.exact)?;
+        self.compare(Call::SpanLongest, &theirs.longest, &ours.longest)?;
+        self.compare(Call::SpanShortest, &theirs.shortest, &ours.shortest)
+    }
+
+    fn check_question(&mut self, question: &Question) -> anyhow::Result<()> {
+        match question {
+            Question::Match(pair, theirs) => {
+                self.check_pair(pair, theirs)?;
+                self.check_span(pair, theirs)
+            }
+            Question::Value(place, theirs) => self.check_value(*place, theirs),
+        }
+    }
 }
 
 fn check_at<K: Key>(rt: &HostRuntime, section: &Section, tally: &mut Tally) -> anyhow::Result<()> {
-    let nodes = section.nodes.as_slice();
-    let values = section.values.as_slice();
-    match accept::<K, u32>(nodes, values) {
-        Ok(()) => {
-            let image = Image::new::<K>(nodes, values);
-            check_questions(rt, &image, section, tally)
-        }
-        Err(e) => {
-            let line = section.line;
-            println!(rt; "line {line}: the library does not accept the image: {e}")?;
-            tally.count_refused_image();
-            Ok(())
-        }
+    let (nodes, values) = (&section.nodes, &section.values);
+    if let Err(e) = accept::<K, u32>(nodes, values) {
+        println!(rt;
+            "line {}: the library does not accept the image: {e}",
+            section.line
+        )?;
+        tally.count_refused_image();
+        return Ok(());
     }
+    let image = Image::new::<K>(nodes, values);
+    for asked in &section.asked {
+        let mut check = Check {
+            rt,
+            image: &image,
+            width: section.width,
+            line: asked.line,
+            tally,
+        };
+        check.check_question(&asked.question)?;
+    }
+    Ok(())
 }
 
+// A width picks a type parameter, which takes an arm for each.
 pub(crate) fn check_section(
     rt: &HostRuntime,
     section: &Section,

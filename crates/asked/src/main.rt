@@ -5,7 +5,6 @@
 mod answer;
 mod ask;
 mod check;
-mod nodelist;
 mod pair;
 mod question;
 mod section;
@@ -15,66 +14,63 @@ use crate::check::check_section;
 use crate::question::Question;
 use crate::section::Section;
 use crate::tally::Tally;
-use anyhow::anyhow;
+use anyhow::Context;
 use std::io::{BufRead, BufReader};
+use tables::line::is_remark;
 
 // A table as it is read: the image that queries are being read for, if any, and what was counted.
 #[derive(Drop)]
-struct Reader {
+struct Reader<'a> {
+    rt: &'a HostRuntime,
     open: Option<Section>,
     tally: Tally,
 }
 
-// Asks the queries of the image that was read last.
-fn close(rt: &HostRuntime, reader: &mut Reader) -> anyhow::Result<()> {
-    match reader.open.take() {
-        None => Ok(()),
-        Some(section) => check_section(rt, &section, &mut reader.tally),
-    }
-}
-
-fn take_line(rt: &HostRuntime, line: u64, text: &str, reader: &mut Reader) -> anyhow::Result<()> {
-    if let Some(lists) = text.strip_prefix("image ") {
-        close(rt, reader)?;
-        reader.open = Some(Section::parse(rt.alloc(), line, lists)?);
-        return Ok(());
-    }
-    let Some(section) = reader.open.as_mut() else {
-        return Err(anyhow!("a query before the first image"));
-    };
-    let question = Question::parse(section.width, text)?;
-    section.push(line, question)
-}
-
-fn read_line(rt: &HostRuntime, line: u64, text: &str, reader: &mut Reader) -> anyhow::Result<()> {
-    if text.is_empty() || text.starts_with('#') {
-        return Ok(());
-    }
-    match take_line(rt, line, text, reader) {
-        Ok(()) => Ok(()),
-        Err(e) => {
-            println!(rt; "line {line} is neither an image nor a query")?;
-            Err(e)
+impl<'a> Reader<'a> {
+    // Asks the queries of the image that was read last.
+    fn close(&mut self) -> anyhow::Result<()> {
+        match self.open.take() {
+            None => Ok(()),
+            Some(section) => check_section(self.rt, &section, &mut self.tally),
         }
     }
-}
 
-fn read_table(rt: &HostRuntime) -> anyhow::Result<()> {
-    let mut reader = Reader {
-        open: None,
-        tally: Tally::new(),
-    };
-    let mut line: u64 = 0;
-    for text in BufReader::new(rt.alloc(), rt.stdin())?.lines(rt.alloc()) {
-        line = line.wrapping_add(1);
-        read_line(rt, line, text?.as_str(), &mut reader)?;
+    fn take_line(&mut self, line: u64, text: &str) -> anyhow::Result<()> {
+        if let Some(lists) = text.strip_prefix("image ") {
+            self.close()?;
+            self.open = Some(Section::parse(self.rt.alloc(), line, lists)?);
+            return Ok(());
+        }
+        let section = self
+            .open
+            .as_mut()
+            .context("a query before the first image")?;
+        let question = Question::parse(section.width, text)?;
+        Ok(section.push(line, question)?)
     }
-    close(rt, &mut reader)?;
-    let tally = &reader.tally;
-    println!(rt; "{tally}")?;
-    Ok(())
+
+    fn read_line(&mut self, line: u64, text: &str) -> anyhow::Result<()> {
+        if is_remark(text) {
+            return Ok(());
+        }
+        if let Err(e) = self.take_line(line, text) {
+            println!(self.rt; "line {line} is neither an image nor a query")?;
+            return Err(e);
+        }
+        Ok(())
+    }
 }
 
 fn main(rt: HostRuntime) -> anyhow::Result<()> {
-    read_table(&rt)
+    let mut reader = Reader {
+        rt: &rt,
+        open: None,
+        tally: Tally::new(),
+    };
+    for (line, text) in (1u64..).zip(BufReader::new(rt.alloc(), rt.stdin())?.lines(rt.alloc())) {
+        reader.read_line(line, &text?)?;
+    }
+    reader.close()?;
+    println!(rt; "{}", reader.tally)?;
+    Ok(())
 }

@@ -1,27 +1,10 @@
-// A width, and a pair of a key of this width and a length, `KEY/LEN`.
-use anyhow::{Context, anyhow};
+// A pair of a key of some width and a length, `KEY/LEN`.
+use anyhow::Context;
 use prefix::pair::Pair;
 use prefix::span::Span;
-
-#[derive(Clone, Copy, PartialEq, Eq)]
-pub enum Width {
-    Bits8,
-    Bits16,
-    Bits32,
-    Bits64,
-}
-
-impl Width {
-    pub(crate) fn parse(word: &str) -> anyhow::Result<Width> {
-        match word {
-            "8" => Ok(Width::Bits8),
-            "16" => Ok(Width::Bits16),
-            "32" => Ok(Width::Bits32),
-            "64" => Ok(Width::Bits64),
-            _ => Err(anyhow!("a width is 8, 16, 32 or 64")),
-        }
-    }
-}
+use std::num::ParseIntError;
+use std::str::FromStr;
+use tables::width::Width;
 
 #[derive(Clone, Copy)]
 pub enum AnyPair {
@@ -32,45 +15,36 @@ pub enum AnyPair {
 }
 
 impl AnyPair {
+    // Not `FromStr`, which takes no width. A width picks a type parameter, which takes an arm for each.
     pub(crate) fn parse(width: Width, word: &str) -> anyhow::Result<AnyPair> {
-        let (key, len) = word.split_once('/').context("a pair is KEY/LEN")?;
-        let len = len.parse::<u8>()?;
         match width {
-            Width::Bits8 => Ok(AnyPair::Bits8(Pair {
-                repr: key.parse::<u8>()?,
-                len,
-            })),
-            Width::Bits16 => Ok(AnyPair::Bits16(Pair {
-                repr: key.parse::<u16>()?,
-                len,
-            })),
-            Width::Bits32 => Ok(AnyPair::Bits32(Pair {
-                repr: key.parse::<u32>()?,
-                len,
-            })),
-            Width::Bits64 => Ok(AnyPair::Bits64(Pair {
-                repr: key.parse::<u64>()?,
-                len,
-            })),
+            Width::Bits8 => Ok(AnyPair::Bits8(parse_pair(word)?)),
+            Width::Bits16 => Ok(AnyPair::Bits16(parse_pair(word)?)),
+            Width::Bits32 => Ok(AnyPair::Bits32(parse_pair(word)?)),
+            Width::Bits64 => Ok(AnyPair::Bits64(parse_pair(word)?)),
         }
     }
 
     // The span of the same addresses, where the key has 32 bits and those past the length are zero.
     pub(crate) fn to_span(&self) -> Option<Span> {
         match self {
-            AnyPair::Bits32(p) => span_of(p.repr, p.len),
+            AnyPair::Bits32(pair) => span_of(pair),
             _ => None,
         }
     }
 }
 
-fn span_of(first: u32, len: u8) -> Option<Span> {
-    if len > 32 {
-        return None;
-    }
-    let size = 1u64 << (32 - len);
-    match u32::try_from(u64::from(first) + (size - 1)) {
-        Ok(last) => Span::new(first, last),
-        Err(_) => None,
-    }
+fn parse_pair<K: FromStr<Err = ParseIntError> + Drop>(word: &str) -> anyhow::Result<Pair<K>> {
+    let (key, len) = word.split_once('/').context("a pair is KEY/LEN")?;
+    let len = len.parse::<u8>()?;
+    Ok(Pair {
+        repr: key.parse::<K>()?,
+        len,
+    })
+}
+
+fn span_of(pair: &Pair<u32>) -> Option<Span> {
+    let free = 32u32.checked_sub(u32::from(pair.len))?;
+    let last = u64::from(pair.repr) + ((1u64 << free) - 1);
+    Span::new(pair.repr, u32::try_from(last).ok()?)
 }

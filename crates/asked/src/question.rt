@@ -2,36 +2,38 @@
 // `ask KEY/LEN EXACT LONGEST SHORTEST`, the crate's answers to a pair of the image's width;
 // `refuse WIDTH KEY/LEN FAULT`, a pair of any width that all three matches turn down;
 // `value PLACE`, a place whose value is the place; `refuse-value PLACE FAULT`, one that has none.
-use crate::answer::Answer;
-use crate::pair::{AnyPair, Width};
+use crate::answer::{Answer, Entry, Refusal};
+use crate::pair::AnyPair;
 use anyhow::{Context, anyhow};
+use tables::width::Width;
 
 // The answers to the three matches of one pair.
 #[derive(Clone, Copy)]
 pub struct Answers {
-    pub exact: Answer,
-    pub longest: Answer,
-    pub shortest: Answer,
+    pub exact: Answer<u32>,
+    pub longest: Answer<Entry>,
+    pub shortest: Answer<Entry>,
+}
+
+// The same refusal of all three.
+impl From<Refusal> for Answers {
+    fn from(refusal: Refusal) -> Answers {
+        Answers {
+            exact: Answer(Err(refusal)),
+            longest: Answer(Err(refusal)),
+            shortest: Answer(Err(refusal)),
+        }
+    }
 }
 
 #[derive(Clone, Copy)]
 pub enum Question {
     Match(AnyPair, Answers),
-    Value(u32, Answer),
-}
-
-impl Answers {
-    pub(crate) fn refused(fault: u32) -> Answers {
-        Answers {
-            exact: Answer::Refused(fault),
-            longest: Answer::Refused(fault),
-            shortest: Answer::Refused(fault),
-        }
-    }
+    Value(u32, Answer<u32>),
 }
 
 impl Question {
-    // A pair without a width of its own has that of the image.
+    // A pair without a width of its own has that of the image. Not `FromStr`, which takes no width.
     pub(crate) fn parse(width: Width, text: &str) -> anyhow::Result<Question> {
         let (name, rest) = text.split_once(' ').context("a query has several words")?;
         let mut words = rest.split_ascii_whitespace();
@@ -39,25 +41,25 @@ impl Question {
             "ask" => Question::Match(
                 AnyPair::parse(width, words.next().context("no pair")?)?,
                 Answers {
-                    exact: Answer::parse_place(words.next().context("no exact match")?)?,
-                    longest: Answer::parse_entry(words.next().context("no longest match")?)?,
-                    shortest: Answer::parse_entry(words.next().context("no shortest match")?)?,
+                    exact: words.next().context("no exact match")?.parse()?,
+                    longest: words.next().context("no longest match")?.parse()?,
+                    shortest: words.next().context("no shortest match")?.parse()?,
                 },
             ),
             "refuse" => {
-                let width = Width::parse(words.next().context("no width")?)?;
+                let width = words.next().context("no width")?.parse::<Width>()?;
                 let pair = AnyPair::parse(width, words.next().context("no pair")?)?;
-                let fault = words.next().context("no fault")?.parse::<u32>()?;
-                Question::Match(pair, Answers::refused(fault))
+                let refusal = words.next().context("no fault")?.parse::<Refusal>()?;
+                Question::Match(pair, Answers::from(refusal))
             }
             "value" => {
                 let place = words.next().context("no place")?.parse::<u32>()?;
-                Question::Value(place, Answer::Place(place))
+                Question::Value(place, Answer(Ok(Some(place))))
             }
             "refuse-value" => {
                 let place = words.next().context("no place")?.parse::<u32>()?;
-                let fault = words.next().context("no fault")?.parse::<u32>()?;
-                Question::Value(place, Answer::Refused(fault))
+                let refusal = words.next().context("no fault")?.parse::<Refusal>()?;
+                Question::Value(place, Answer(Err(refusal)))
             }
             _ => return Err(anyhow!("a query is ask, refuse, value or refuse-value")),
         };

@@ -1,10 +1,10 @@
 // An image of the table, `image WIDTH VALUES NODE..`, and the queries that follow it.
-use crate::nodelist::parse_node;
-use crate::pair::Width;
 use crate::question::Question;
 use anyhow::Context;
 use nodes::node::Node;
 use std::alloc::{AllocError, Global};
+use tables::node_word::NodeWord;
+use tables::width::Width;
 
 // A query and the number of its line.
 #[derive(Clone, Copy)]
@@ -18,40 +18,31 @@ pub struct Section {
     pub line: u64,
     pub width: Width,
     pub nodes: Vec<Node>,
+    // At each place the place.
     pub values: Vec<u32>,
     pub asked: Vec<Asked>,
 }
 
-// The values of an image: at each place the place.
-fn places(heap: Global, count: u32) -> Result<Vec<u32>, AllocError> {
-    let mut values = Vec::new(heap);
-    for place in 0..count {
-        values.push(place)?;
-    }
-    Ok(values)
-}
-
 impl Section {
-    // The words behind `image`.
-    pub(crate) fn parse(heap: Global, line: u64, text: &str) -> anyhow::Result<Section> {
+    // The words behind `image`. Not `FromStr`, which takes no allocator and no line.
+    pub(crate) fn parse(alloc: Global, line: u64, text: &str) -> anyhow::Result<Section> {
         let mut words = text.split_ascii_whitespace();
-        let width = Width::parse(words.next().context("no width")?)?;
+        let width = words.next().context("no width")?.parse::<Width>()?;
         let count = words.next().context("no number of values")?.parse::<u32>()?;
-        let mut nodes = Vec::new(heap);
+        let mut nodes = Vec::new(alloc);
         for word in words {
-            nodes.push(parse_node(word)?)?;
+            nodes.push(word.parse::<NodeWord>()?.0)?;
         }
         Ok(Section {
             line,
             width,
             nodes,
-            values: places(heap, count)?,
-            asked: Vec::new(heap),
+            values: (0..count).collect(alloc)?,
+            asked: Vec::new(alloc),
         })
     }
 
-    pub(crate) fn push(&mut self, line: u64, question: Question) -> anyhow::Result<()> {
-        self.asked.push(Asked { line, question })?;
-        Ok(())
+    pub(crate) fn push(&mut self, line: u64, question: Question) -> Result<(), AllocError> {
+        Ok(self.asked.push(Asked { line, question })?)
     }
 }

@@ -1,9 +1,13 @@
 // How many calls there were of each kind and answer, at each width.
-ghost use Rattle.std.specs.Prelude.{◌≡◌, ◌+◌, ◌-◌, ◌^◌, ◌<◌, min, ◌≢◌};
+ghost use Rattle.std.specs.Prelude.{◌≡◌, ◌+◌, ◌-◌, ◌^◌, min, ◌≢◌};
 
-use crate::answer::Answer;
-use crate::pair::Width;
+use crate::answer::{Answer, Entry, Found, Refusal};
+use nodes::error::ArchiveError;
+use nodes::node::Node;
 use std::fmt;
+use tables::compared::{Compared, add_one};
+use tables::row::{Row, place_of};
+use tables::width::Width;
 
 // The calls of the library. The first three are made with a pair, the next three with a span.
 #[derive(Clone, Copy, PartialEq, Eq)]
@@ -17,19 +21,9 @@ pub enum Call {
     Value,
 }
 
-impl Call {
-    const ALL: [Call; 7] = [
-        Call::Exact,
-        Call::Longest,
-        Call::Shortest,
-        Call::SpanExact,
-        Call::SpanLongest,
-        Call::SpanShortest,
-        Call::Value,
-    ];
-
-    fn name(&self) -> &'static str {
-        match self {
+impl fmt::Display for Call {
+    fn fmt<W: fmt::Write>(&self, f: &mut fmt::Formatter<W>) -> fmt::Result {
+        f.write_str(match self {
             Call::Exact => "exact match",
             Call::Longest => "longest match",
             Call::Shortest => "shortest match",
@@ -37,62 +31,7 @@ impl Call {
             Call::SpanLongest => "longest match of a span",
             Call::SpanShortest => "shortest match of a span",
             Call::Value => "value",
-        }
-    }
-
-    fn index(&self) -> usize
-        ensures { result < 7 }
-    {
-        match self {
-            Call::Exact => 0,
-            Call::Longest => 1,
-            Call::Shortest => 2,
-            Call::SpanExact => 3,
-            Call::SpanLongest => 4,
-            Call::SpanShortest => 5,
-            Call::Value => 6,
-        }
-    }
-}
-
-impl fmt::Display for Call {
-    fn fmt<W: fmt::Write>(&self, f: &mut fmt::Formatter<W>) -> fmt::Result {
-        f.write_str(self.name())
-    }
-}
-
-// Calls by width.
-#[derive(Clone, Copy)]
-struct Row {
-    bits8: u64,
-    bits16: u64,
-    bits32: u64,
-    bits64: u64,
-}
-
-impl Row {
-    const NONE: Row = Row {
-        bits8: 0,
-        bits16: 0,
-        bits32: 0,
-        bits64: 0,
-    };
-
-    fn bump(&mut self, width: Width) {
-        let count = match width {
-            Width::Bits8 => &mut self.bits8,
-            Width::Bits16 => &mut self.bits16,
-            Width::Bits32 => &mut self.bits32,
-            Width::Bits64 => &mut self.bits64,
-        };
-        *count = count.saturating_add(1);
-    }
-}
-
-impl fmt::Display for Row {
-    fn fmt<W: fmt::Write>(&self, f: &mut fmt::Formatter<W>) -> fmt::Result {
-        let (a, b, c, d) = (self.bits8, self.bits16, self.bits32, self.bits64);
-        write!(f, "{a:>8}{b:>8}{c:>8}{d:>8}")
+        })
     }
 }
 
@@ -111,12 +50,11 @@ impl Rows {
         refused: Row::NONE,
     };
 
-    fn bump(&mut self, width: Width, answer: Answer) {
-        match answer {
-            Answer::Refused(_) => self.refused.bump(width),
-            Answer::Nothing => self.nothing.bump(width),
-            Answer::Place(_) => self.found.bump(width),
-            Answer::Found(_) => self.found.bump(width),
+    fn bump<T>(&mut self, width: Width, answer: &Answer<T>) {
+        match &answer.0 {
+            Ok(Some(_)) => self.found.bump(width),
+            Ok(None) => self.nothing.bump(width),
+            Err(_) => self.refused.bump(width),
         }
     }
 }
@@ -124,110 +62,110 @@ impl Rows {
 #[derive(Drop)]
 pub struct Tally {
     images: Row,
-    calls: [Rows; 7],
+    calls: [(Call, Rows); 7],
+    // A row for each level of nodes: the level is the index.
     depths: [Row; 13],
-    faults: [Row; 3],
+    faults: [(ArchiveError, Row); 3],
     sections: u64,
-    queries: u64,
-    differ: u64,
+    queries: Compared,
 }
 
 impl Tally {
     pub(crate) fn new() -> Tally
-        ensures { (result.queries ≡ 0) × (result.differ ≡ 0) }
+        ensures { (result.queries.answers ≡ 0) × (result.queries.differ ≡ 0) }
     {
         Tally {
             images: Row::NONE,
-            calls: [Rows::NONE; 7],
+            calls: [
+                (Call::Exact, Rows::NONE),
+                (Call::Longest, Rows::NONE),
+                (Call::Shortest, Rows::NONE),
+                (Call::SpanExact, Rows::NONE),
+                (Call::SpanLongest, Rows::NONE),
+                (Call::SpanShortest, Rows::NONE),
+                (Call::Value, Rows::NONE),
+            ],
             depths: [Row::NONE; 13],
-            faults: [Row::NONE; 3],
+            faults: [
+                (ArchiveError::LengthExceedsKey, Row::NONE),
+                (ArchiveError::KeyWidthDiffers, Row::NONE),
+                (ArchiveError::NoSuchPlace, Row::NONE),
+            ],
             sections: 0,
-            queries: 0,
-            differ: 0,
+            queries: Compared::new(),
         }
     }
 
     pub(crate) fn count_image(&mut self, width: Width) {
-        self.sections = self.sections.saturating_add(1);
+        add_one(&mut self.sections);
         self.images.bump(width);
     }
 
     // An image that the library does not accept.
     pub(crate) fn count_refused_image(&mut self) {
-        self.differ = self.differ.saturating_add(1);
+        self.queries.count_difference();
     }
 
     // Counts a call under the answer that the table has.
-    pub(crate) fn count(&mut self, width: Width, call: Call, theirs: Answer, ours: Answer)
-        ensures queries { self.new.queries ≡ min (self.old.queries + 1) (2 ^ 64 - 1) }
-        ensures agree { ours ≡ theirs → self.new.differ ≡ self.old.differ }
-        ensures differ { (ours ≢ theirs) → self.new.differ ≡ min (self.old.differ + 1) (2 ^ 64 - 1) }
+    pub(crate) fn count<T: Found>(
+        &mut self,
+        width: Width,
+        call: Call,
+        theirs: &Answer<T>,
+        ours: &Answer<T>,
+    )
+        ensures queries { self.new.queries.answers ≡ min (self.old.queries.answers + 1) (2 ^ 64 - 1) }
+        ensures agree { ours.now ≡ theirs.now → self.new.queries.differ ≡ self.old.queries.differ }
+        ensures differ { (ours.now ≢ theirs.now) → self.new.queries.differ ≡ min (self.old.queries.differ + 1) (2 ^ 64 - 1) }
     {
-        self.queries = self.queries.saturating_add(1);
-        if ours != theirs {
-            self.differ = self.differ.saturating_add(1);
+        self.queries.count(ours == theirs);
+        if let Some(place) = place_of(&self.calls, &call) {
+            self.calls[place].1.bump(width, theirs);
         }
-        self.calls[call.index()].bump(width, theirs);
-        match theirs {
-            Answer::Refused(fault) => self.count_fault(width, fault),
-            Answer::Found(entry) => self.count_depth(width, call, entry.len),
-            _ => (),
-        }
-    }
-
-    fn count_fault(&mut self, width: Width, fault: u32)
-        ensures { (self.new.queries ≡ self.old.queries) × (self.new.differ ≡ self.old.differ) }
-    {
-        if 12 <= fault && fault <= 14 {
-            self.faults[fault as usize - 12].bump(width);
+        if let Err(Refusal(Ok(fault))) = theirs.0
+            && let Some(place) = place_of(&self.faults, &fault)
+        {
+            self.faults[place].1.bump(width);
         }
     }
 
     // A longest match of a pair, by the depth of the node that has it.
-    fn count_depth(&mut self, width: Width, call: Call, len: u8)
-        ensures { (self.new.queries ≡ self.old.queries) × (self.new.differ ≡ self.old.differ) }
+    pub(crate) fn count_depth(&mut self, width: Width, longest: &Answer<Entry>)
+        ensures { self.new.queries ≡ self.old.queries }
     {
-        if call == Call::Longest && len <= 64 {
-            self.depths[usize::from(len) / 5].bump(width);
+        if let Ok(Some(entry)) = longest.0
+            && let Some(row) = self
+                .depths
+                .get_mut((u32::from(entry.len) / Node::LEVELS) as usize)
+        {
+            row.bump(width);
         }
-    }
-
-    fn write_calls<W: fmt::Write>(&self, f: &mut fmt::Formatter<W>) -> fmt::Result {
-        for (call, rows) in Call::ALL.iter().zip(self.calls.iter()) {
-            let (found, nothing, refused) = (rows.found, rows.nothing, rows.refused);
-            writeln!(f, "{found}  {call}, found")?;
-            writeln!(f, "{nothing}  {call}, none")?;
-            writeln!(f, "{refused}  {call}, refused")?;
-        }
-        Ok(())
-    }
-
-    fn write_depths<W: fmt::Write>(&self, f: &mut fmt::Formatter<W>) -> fmt::Result {
-        for (level, row) in self.depths.iter().enumerate() {
-            let depth = level.wrapping_mul(5);
-            writeln!(f, "{row}  longest match in a node at depth {depth}")?;
-        }
-        Ok(())
-    }
-
-    fn write_faults<W: fmt::Write>(&self, f: &mut fmt::Formatter<W>) -> fmt::Result {
-        for (i, row) in self.faults.iter().enumerate() {
-            let fault = i.wrapping_add(12);
-            writeln!(f, "{row}  refused with {fault}")?;
-        }
-        Ok(())
     }
 }
 
 impl fmt::Display for Tally {
     fn fmt<W: fmt::Write>(&self, f: &mut fmt::Formatter<W>) -> fmt::Result {
         writeln!(f, "       8      16      32      64  bits")?;
-        let images = self.images;
-        writeln!(f, "{images}  images")?;
-        self.write_calls(f)?;
-        self.write_depths(f)?;
-        self.write_faults(f)?;
-        let (sections, queries, differ) = (self.sections, self.queries, self.differ);
-        write!(f, "{sections} images, {queries} queries, {differ} differ")
+        writeln!(f, "{}  images", self.images)?;
+        for (call, rows) in &self.calls {
+            writeln!(f, "{}  {call}, found", rows.found)?;
+            writeln!(f, "{}  {call}, none", rows.nothing)?;
+            writeln!(f, "{}  {call}, refused", rows.refused)?;
+        }
+        for (row, depth) in self
+            .depths
+            .iter()
+            .zip((0u32..).step_by(Node::LEVELS as usize))
+        {
+            writeln!(f, "{row}  longest match in a node at depth {depth}")?;
+        }
+        for (fault, row) in &self.faults {
+            writeln!(f, "{row}  refused with {}", fault.number())?;
+        }
+        write!(
+            f,
+            "{} images, {} queries, {} differ",
+            self.sections, self.queries.answers, self.queries.differ
+        )
     }
 }

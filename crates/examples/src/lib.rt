@@ -5,17 +5,8 @@ ghost use Rattle.examples.specs.Acceptance.{AcceptedLists, RefusedLists};
 ghost use Rattle.examples.specs.Matches.{Matches, Registers};
 ghost use Rattle.std.specs.Prelude.{◌≡◌};
 
-fn acceptance_stands()
-    ensures accepted { AcceptedLists }
-    ensures refusals { RefusedLists }
-{}
-
-fn matches_stand()
-    ensures registers { Registers }
-    ensures matches { Matches }
-{}
-
 // How many examples are stated here, all of which hold.
+#[tactic(auto, unfolding(nodes::specs::Bitmaps::ones32))]
 pub fn examples_stand() -> u32
     ensures accepted { AcceptedLists }
     ensures refusals { RefusedLists }
@@ -23,7 +14,5 @@ pub fn examples_stand() -> u32
     ensures matches { Matches }
     ensures count { result ≡ 18 }
 {
-    acceptance_stands();
-    matches_stand();
     18
 }

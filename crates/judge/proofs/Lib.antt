@@ -1,1 +1,1 @@
-pub mod Widths
+pub mod Images

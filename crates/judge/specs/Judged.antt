@@ -11,7 +11,15 @@ use Rattle.tree.specs.Verdict.{verdict}
 abbrev pub Says : List ℕ → Contents → Answer (Unit {0}) → Type 0
 Says t c a = Within c × (t ≡ written c) × (verdict c.width c.nodes (length c.values) ≡ a)
 
+-- the image in t is accepted, and h is its sheet's head
+unfoldable pub Accepted : List ℕ → Head → Type 0
+Accepted t h = (c : Contents) × Says t c (given tt) × (head_of c ≡ h)
+
+-- the image in t has the fault with the number k
+unfoldable pub Faulty : List ℕ → ℕ → Type 0
+Faulty t k = (c : Contents) × Says t c (refused k)
+
 abbrev pub Judged : List ℕ → Result Head ReadError → Type 0
-Judged t (Ok h) = (c : Contents) × Says t c (given tt) × (head_of c ≡ h)
-Judged t (Err (Fault e)) = ((c : Contents) × Says t c (refused (number e))) ⊎ (Malformed t × (number e ≡ 15))
+Judged t (Ok h) = Accepted t h
+Judged t (Err (Fault e)) = Faulty t (number e) ⊎ (Malformed t × (number e ≡ 15))
 Judged t (Err OutOfMemory) = Wellformed t

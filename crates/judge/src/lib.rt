@@ -14,31 +14,26 @@ use sheet::reading::read;
 use sheet::sheet::Sheet;
 use std::alloc::Global;
 
-// The verdict on the lists of a sheet, under keys of its width.
+// The verdict on the lists of a sheet, under keys of its width. A width picks a type parameter,
+// which takes an arm for each.
 pub fn accept_sheet(s: &Sheet) -> Result<(), ArchiveError>
     ensures { answer result ≡ verdict s.now.width s.now.nodes.items (length s.now.values.items) }
 {
     let nodes = s.nodes.as_slice();
     let values = s.values.as_slice();
-    if s.width == 8 {
-        accept::<u8, u32>(nodes, values)
-    } else if s.width == 16 {
-        accept::<u16, u32>(nodes, values)
-    } else {
-        accept::<u32, u32>(nodes, values)
+    match s.width {
+        8 => accept::<u8, u32>(nodes, values),
+        16 => accept::<u16, u32>(nodes, values),
+        _ => accept::<u32, u32>(nodes, values),
     }
 }
 
 // The head of a sheet whose image is accepted, or why there is none.
+#[tactic(auto, using(crate::proofs::Images::accepted, crate::proofs::Images::faulty))]
 pub fn judge(heap: Global, text: &[u8]) -> Result<Head, ReadError>
     ensures { Judged text.now result }
 {
     let s = read(heap, text)?;
-    let head = Head {
-        width: s.width,
-        nodes: s.nodes.len() as u32,
-        values: s.values.len() as u32,
-    };
     accept_sheet(&s)?;
-    Ok(head)
+    Ok(s.head())
 }

@@ -1,6 +1,8 @@
 -- The first and the last of the entries that a key meets, by the lowest and the highest length that has a value, and so what a search finds.
-use Rattle.std.proofs.Common.{◌≡◌, ℕ, zero, suc, ◌-◌, ◌^◌, ◌<◌, ◌≤◌, cond, T, List, [], ◌∷◌, ◌++◌, length, is_some, IfSome, Some, None, Option, sym, refl, ap, ◌∙◌, subst, append-nil, arith, MatchOption}
+use Rattle.std.proofs.Common.{◌≡◌, ℕ, zero, suc, ◌-◌, ◌^◌, ◌<◌, ◌≤◌, cond, T, List, [], ◌∷◌, ◌++◌, length, is_some, IfSome, Some, None, Option, sym, refl, ap, ◌∙◌, subst, ap₂, append-nil, arith, MatchOption}
 use Rattle.std.specs.Option.{option_map, option_or}
+use Rattle.accept.specs.declared.image.Image.{Image}
+use Rattle.matches.proofs.Lists.{sound_of}
 use Rattle.keys.specs.Blocks.{Block, block_of, cut, first_bits}
 use Rattle.nodes.specs.declared.node.Node.{Node}
 use Rattle.register.proofs.Hits.{covering_hits, exact_own, hit_start, hit_at, hits, spot_at}
@@ -10,10 +12,11 @@ use Rattle.register.specs.Entries.{Entry, Held, exact, first_element, last_eleme
 use Rattle.register.specs.Register.{Spot, entry_at, own, place_at, register}
 use Rattle.slots.specs.Picks.{highest, lowest}
 use Rattle.tree.specs.Meaning.{Sound}
+use Rattle.matches.specs.declared.query.Query.{Query}
 use Rattle.matches.proofs.Picks.{Met, highest_met, lowest_met, mapped_mapped, mapped_or, or_none}
-use Rattle.matches.specs.Asked.{found, place_in}
-use Rattle.matches.specs.Way.{entry_of, found_of, has, picked, place_on}
-use Rattle.matches.specs.declared.search.Found.{Found}
+use Rattle.matches.specs.Asked.{found, place_in, register_of}
+use Rattle.matches.specs.Way.{entry_of, found_of, has, longest_on, picked, place_on, shortest_on}
+use Rattle.matches.specs.declared.found.Found.{Found}
 
 last_one : {A : Type 0} (xs : List A) (e : A) → last_element (xs ++ (e ∷ [])) ≡ Some e
 last_one [] e = refl
@@ -149,3 +152,43 @@ module _ {A : Type 0} (w : ℕ) (ns : List Node) (vs : List A) (sound : Sound w 
         ),
     found_within w ns key len (lowest (suc len) (has w ns key)) (lowest_met (suc len) (has w ns key)),
   )
+
+-- the same, of a query on the nodes of an image
+module _ {A : Type 0} (q : Query) (i : Image A) (wide : q.key.width ≡ i.width) (lent : q.nodes.now ≡ i.nodes.now) where
+  sound_with : Sound q.key.width q.nodes.now (length i.values.now)
+  sound_with =
+      let s = sound_of i.width i.nodes.now (length i.values.now) i.accepted in
+      subst (λ (w : ℕ). Sound w q.nodes.now (length i.values.now)) (sym wide) (subst (λ (ns : List Node). Sound i.width ns (length i.values.now)) (sym lent) s)
+
+  whole : register q.key.width q.nodes.now i.values.now ≡ register_of i
+  whole = ap₂ (λ (w : ℕ) (ns : List Node). register w ns i.values.now) wide lent
+
+  pub exact_answer : (p : Option ℕ) → p ≡ place_on q.key.width q.nodes.now q.key.bits q.len → p ≡ place_in (exact (block_of q.key.width q.key.bits q.len) (register_of i))
+  exact_answer p e =
+      e ∙ exact_place q.key.width q.nodes.now i.values.now sound_with q.below q.short
+      ∙ ap (λ es. place_in (exact (block_of q.key.width q.key.bits q.len) es)) whole
+
+  pub longest_answer : (r : Option Found) → r ≡ longest_on q.key.width q.nodes.now q.key.bits q.len → option_map (entry_of q.key.width q.key.bits) r ≡ found (longest q.key.width (block_of q.key.width q.key.bits q.len) (register_of i))
+  longest_answer r e =
+      (longest_found q.key.width q.nodes.now i.values.now sound_with q.below q.short r e).0
+      ∙ ap (λ es. found (longest q.key.width (block_of q.key.width q.key.bits q.len) es)) whole
+
+  pub shortest_answer : (r : Option Found) → r ≡ shortest_on q.key.width q.nodes.now q.key.bits q.len → option_map (entry_of q.key.width q.key.bits) r ≡ found (shortest q.key.width (block_of q.key.width q.key.bits q.len) (register_of i))
+  shortest_answer r e =
+      (shortest_found q.key.width q.nodes.now i.values.now sound_with q.below q.short r e).0
+      ∙ ap (λ es. found (shortest q.key.width (block_of q.key.width q.key.bits q.len) es)) whole
+
+shorter : (n m : ℕ) (r : Option Found) → n ≤ m → IfSome r (λ f. f.len ≤ n) → IfSome r (λ f. f.len ≤ m)
+shorter n m None l h = tt
+shorter n m (Some f) l h = omega (arith, h)
+
+module _ (q : Query) where
+  within : (o : Option ℕ) → Met (suc q.len) (has q.key.width q.nodes.now q.key.bits) o → (r : Option Found) → r ≡ picked (found_of q.key.width q.nodes.now q.key.bits) o → IfSome r (λ f. f.len ≤ q.key.width)
+  within o met r e = subst (λ (x : Option Found). IfSome x (λ f. f.len ≤ q.key.width)) (sym e) (
+      shorter q.len q.key.width (picked (found_of q.key.width q.nodes.now q.key.bits) o) q.short (found_within q.key.width q.nodes.now q.key.bits q.len o met))
+
+  pub longest_within : (r : Option Found) → r ≡ longest_on q.key.width q.nodes.now q.key.bits q.len → IfSome r (λ f. f.len ≤ q.key.width)
+  longest_within r e = within (highest (suc q.len) (has q.key.width q.nodes.now q.key.bits)) (highest_met (suc q.len) (has q.key.width q.nodes.now q.key.bits)) r e
+
+  pub shortest_within : (r : Option Found) → r ≡ shortest_on q.key.width q.nodes.now q.key.bits q.len → IfSome r (λ f. f.len ≤ q.key.width)
+  shortest_within r e = within (lowest (suc q.len) (has q.key.width q.nodes.now q.key.bits)) (lowest_met (suc q.len) (has q.key.width q.nodes.now q.key.bits)) r e

@@ -7,7 +7,7 @@ use Rattle.tree.specs.Meaning.{Sound}
 use Rattle.matches.proofs.Picks.{highest_met, highest_more, highest_stop, lowest_keeps, lowest_met, lowest_more, lowest_stop}
 use Rattle.matches.proofs.Steps.{ended, hit_picked}
 use Rattle.matches.specs.Way.{Ends, HitOn, OnPath, has, hit_of, level_to}
-use Rattle.matches.specs.declared.search.Hit.{Hit}
+use Rattle.matches.specs.declared.found.Hit.{Hit}
 
 pub mapped_none : {A B : Type 0} (g : A → B) (o : Option A) → None ≡ option_map g o → o ≡ None
 mapped_none g None e = refl
@@ -34,8 +34,8 @@ module _ {w : ℕ} {ns : List Node} {values : ℕ} (sound : Sound w ns values) {
     so_far : option_or r best ≡ option_map hit (highest (depth + suc level) met)
     so_far = highest_more hit depth (suc level) met r best here before
 
-    pub longest_on : depth + 5 ≤ len → option_or r best ≡ option_map hit (highest (depth + 5) met)
-    longest_on h =
+    pub longest_turn : depth + 5 ≤ len → option_or r best ≡ option_map hit (highest (depth + 5) met)
+    longest_turn h =
         let e : suc level ≡ 5 = omega arith in
         so_far ∙ ap (λ (k : ℕ). option_map hit (highest (depth + k) met)) e
 
@@ -47,8 +47,8 @@ module _ {w : ℕ} {ns : List Node} {values : ℕ} (sound : Sound w ns values) {
     first_so_far : r ≡ option_map hit (lowest (depth + suc level) met)
     first_so_far = lowest_more hit depth (suc level) met r here before
 
-    pub shortest_on : r ≡ None → depth + 5 ≤ len → lowest (depth + 5) met ≡ None
-    shortest_on none h =
+    pub shortest_turn : r ≡ None → depth + 5 ≤ len → lowest (depth + 5) met ≡ None
+    shortest_turn none h =
         let e : 5 ≡ suc level = omega arith in
         ap (λ (k : ℕ). lowest (depth + k) met) e ∙ mapped_none hit (lowest (depth + suc level) met) (sym none ∙ first_so_far)
 

@@ -12,6 +12,7 @@ use Rattle.register.proofs.Under.{T_true, true_T}
 use Rattle.register.specs.Laws.{five_bits}
 use Rattle.register.specs.Register.{Spot, child_at, if, place_at, slot_bit, top}
 use Rattle.slots.proofs.Paths.{highest_path_mask, lowest_path_mask}
+use Rattle.slots.proofs.Shifts.{four_right}
 use Rattle.slots.proofs.Picks.{highest_same, lowest_same}
 use Rattle.slots.specs.Masks.{next_four, path_bit}
 use Rattle.slots.specs.Picks.{highest, lowest}
@@ -19,9 +20,8 @@ use Rattle.slots.specs.Places.{loc_of, place_of}
 use Rattle.tree.specs.Levels.{node_at}
 use Rattle.tree.specs.Meaning.{Sound}
 use Rattle.matches.proofs.Picks.{Met, highest_met, lowest_met, mapped_mapped, mapped_same}
-use Rattle.matches.specs.Way.{Ends, HitOn, OnPath, first_bit, found_of, has, hit_of, last_bit, level_to, node_of, picked, place_on}
-use Rattle.matches.specs.declared.search.Found.{Found}
-use Rattle.matches.specs.declared.search.Hit.{Hit}
+use Rattle.matches.specs.Way.{Ends, HitOn, OnPath, first_bit, has, hit_of, last_bit, level_to, node_of, picked, place_on}
+use Rattle.matches.specs.declared.found.Hit.{Hit}
 
 -- where a set bit's place fits, its location is there
 pub loc_index : (m first b : ℕ) → (T (bit m b) → first + ones_below b m < 2 ^ 32) → option_map (λ l. l.idx) (loc_of m first b) ≡ if (bit m b) (first + ones_below b m)
@@ -71,11 +71,20 @@ four_first w d l key h b =
     ∙ (sym (shr-shr (key * 16) 4 (w - (d + l)))
     ∙ ap (λ (n : ℕ). n / 2 ^ (w - (d + l))) (shl-shr key 4)))))
 
-some_if : (b : Bool) (x : ℕ) → is_some (if b x) ≡ b
+-- the first four of the five bits after a depth
+pub five_four : (w d key : ℕ) → d + 5 ≤ w → first_bits w (d + 5) key % 32 / 2 % 16 ≡ next_four w d key
+five_four w d key h =
+    let k : ℕ = w - (d + 5) in
+    let x : ℕ = key / 2 ^ k in
+    let e : k + 1 ≡ (w - d) - 4 = omega arith in
+    let half : x / 2 ≡ key * 16 / 2 ^ (w - d) = shr-shr key k 1 ∙ (ap (λ (n : ℕ). key / 2 ^ n) e ∙ four_right key (w - d) (omega arith)) in
+    omega (arith, half)
+
+pub some_if : (b : Bool) (x : ℕ) → is_some (if b x) ≡ b
 some_if true x = refl
 some_if false x = refl
 
-slot_below : (w key n l : ℕ) → l ≤ 4 → 2 ^ l - 1 + first_bits w n key % 2 ^ l < 32
+pub slot_below : (w key n l : ℕ) → l ≤ 4 → 2 ^ l - 1 + first_bits w n key % 2 ^ l < 32
 slot_below w key n l h =
     let p : 2 ^ l ≤ 2 ^ 4 = pow_mono h in
     omega (arith, p, mod-lt (first_bits w n key) (pow_pos l))
@@ -105,10 +114,6 @@ module _ {w : ℕ} {ns : List Node} {values : ℕ} (sound : Sound w ns values) w
                 ∙ (ap (λ (l : ℕ). place_at ns (spot_of w key hit.len way.node l)) (sym level)
                 ∙ (ap (place_at ns) (sym way.here) ∙ ap (picked (place_at ns)) (sym e))),
           )
-
-  pub found_here : {key : ℕ} (hit : Hit) {p : Option ℕ} → HitOn w ns key hit → p ≡ place_at ns (spot_of w key hit.len hit.node (hit.len % 5)) → option_map {U = Found} (λ place. record { place = place; len = hit.len }) p ≡ found_of w ns key hit.len
-  unfolding found_of
-  found_here hit on e = ap (option_map (λ (place : ℕ). record { place = place; len = hit.len })) (e ∙ (hit_node hit on).1)
 
   -- the hit of a length that was picked
   pub hit_picked : {key : ℕ} (k : ℕ) (o : Option ℕ) (hit : Hit) → k ≤ suc w → Met k (has w ns key) o → Some hit ≡ option_map (hit_of w ns key) o → HitOn w ns key hit × (o ≡ Some hit.len)

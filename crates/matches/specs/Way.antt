@@ -1,5 +1,5 @@
 -- The way of a key through a node list: where its first bits lead, and what stands there.
-use Rattle.std.specs.Prelude.{◌≡◌, ℕ, ◌+◌, ◌-◌, ◌%◌, ◌≤◌, min, Bool, true, ◌&&◌, List, is_some, Some, None, Option}
+use Rattle.std.specs.Prelude.{◌≡◌, ℕ, suc, ◌+◌, ◌-◌, ◌%◌, ◌≤◌, min, Bool, true, ◌&&◌, List, is_some, Some, None, Option}
 use Rattle.std.specs.Option.{option_map}
 use Rattle.keys.specs.Blocks.{Block, block_of}
 use Rattle.nodes.specs.Bitmaps.{bit}
@@ -9,8 +9,8 @@ use Rattle.register.proofs.Hits.{spot_at}
 use Rattle.register.proofs.Spots.{top_of}
 use Rattle.slots.specs.Masks.{mask, next_four, on_path}
 use Rattle.slots.specs.Picks.{highest, lowest}
-use Rattle.matches.specs.declared.search.Found.{Found}
-use Rattle.matches.specs.declared.search.Hit.{Hit}
+use Rattle.matches.specs.declared.found.Found.{Found}
+use Rattle.matches.specs.declared.found.Hit.{Hit}
 
 abbrev pub picked : {A B : Type 0} → (A → Option B) → Option A → Option B
 picked f None = None
@@ -35,6 +35,13 @@ hit_of w ns key n = record { node = node_of (spot_at w ns key n); len = n }
 unfoldable pub found_of : ℕ → List Node → ℕ → ℕ → Option Found
 found_of w ns key n = option_map (λ place. record { place = place; len = n }) (place_on w ns key n)
 
+-- what the search for the longest and for the shortest finds, among the key's first bits up to len
+abbrev pub longest_on : ℕ → List Node → ℕ → ℕ → Option Found
+longest_on w ns key len = picked (found_of w ns key) (highest (suc len) (has w ns key))
+
+abbrev pub shortest_on : ℕ → List Node → ℕ → ℕ → Option Found
+shortest_on w ns key len = picked (found_of w ns key) (lowest (suc len) (has w ns key))
+
 -- of the key's first len bits, those of this depth lead to the top of the node at
 pub record OnPath (w : ℕ) (ns : List Node) (key len at depth : ℕ) : Type 0 where
   pub short : len ≤ w
@@ -50,12 +57,23 @@ Ends w ns key len depth = (n : ℕ) → depth + 5 ≤ n → n ≤ len → spot_a
 abbrev pub level_to : ℕ → ℕ → ℕ
 level_to depth len = min (len - depth) 4
 
--- the highest and the lowest data bit of the bitmap m on the key's path, as far as the length reaches
+-- the hits of a node's last and of its first length that has a value
+abbrev pub last_hit : ℕ → List Node → ℕ → ℕ → ℕ → Option Hit
+last_hit w ns key len depth = option_map (hit_of w ns key) (option_map (λ l. depth + l) (highest (suc (level_to depth len)) (λ l. has w ns key (depth + l))))
+
+abbrev pub first_hit : ℕ → List Node → ℕ → ℕ → ℕ → Option Hit
+first_hit w ns key len depth = option_map (hit_of w ns key) (option_map (λ l. depth + l) (lowest (suc (level_to depth len)) (λ l. has w ns key (depth + l))))
+
+-- the data bits on the key's path, as far as the length reaches
+abbrev pub path_mask : ℕ → ℕ → ℕ → ℕ → ℕ
+path_mask w key len depth = mask (on_path (level_to depth len) (next_four w depth key))
+
+-- the highest and the lowest of them in the bitmap m
 abbrev pub last_bit : ℕ → ℕ → ℕ → ℕ → ℕ → Option ℕ
-last_bit m w depth key len = highest 32 (λ b. bit m b && bit (mask (on_path (level_to depth len) (next_four w depth key))) b)
+last_bit m w depth key len = highest 32 (λ b. bit m b && bit (path_mask w key len depth) b)
 
 abbrev pub first_bit : ℕ → ℕ → ℕ → ℕ → ℕ → Option ℕ
-first_bit m w depth key len = lowest 32 (λ b. bit m b && bit (mask (on_path (level_to depth len) (next_four w depth key))) b)
+first_bit m w depth key len = lowest 32 (λ b. bit m b && bit (path_mask w key len depth) b)
 
 -- the key's first bits, as many as the hit's length, end in its node, and have a value there
 pub record HitOn (w : ℕ) (ns : List Node) (key : ℕ) (hit : Hit) : Type 0 where

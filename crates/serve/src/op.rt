@@ -1,7 +1,11 @@
 // The operations that are measured.
-use std::fmt;
+ghost use Rattle.std.specs.Prelude.{◌≡◌, Some};
+ghost use Rattle.serve.specs.Ops.{name_of, Named};
 
-#[derive(Clone, Copy, PartialEq, Eq)]
+use std::fmt;
+use std::str::FromStr;
+
+#[derive(Clone, Copy, PartialEq, Eq, Debug)]
 pub enum Op {
     Acceptance,
     Exact,
@@ -12,19 +16,9 @@ pub enum Op {
 }
 
 impl Op {
-    pub(crate) fn parse(name: &str) -> Option<Op> {
-        match name {
-            "acceptance" => Some(Op::Acceptance),
-            "exact" => Some(Op::Exact),
-            "longest" => Some(Op::Longest),
-            "longest_value" => Some(Op::LongestValue),
-            "longest_value_chained" => Some(Op::LongestValueChained),
-            "shortest" => Some(Op::Shortest),
-            _ => None,
-        }
-    }
-
-    pub(crate) fn name(self) -> &'static str {
+    fn name(self) -> &'static str
+        ensures { result.now ≡ name_of self }
+    {
         match self {
             Op::Acceptance => "acceptance",
             Op::Exact => "exact",
@@ -37,7 +31,32 @@ impl Op {
 }
 
 impl fmt::Display for Op {
+    ghost output = { λ op. Some (name_of op) };
+
     fn fmt<W: fmt::Write>(&self, f: &mut fmt::Formatter<W>) -> fmt::Result {
         f.write_str(self.name())
+    }
+}
+
+// A name that no operation has.
+#[derive(Clone, Copy, PartialEq, Eq, Debug)]
+pub struct UnknownOp;
+
+impl FromStr for Op {
+    type Err = UnknownOp;
+
+    ghost from_str_gives = { Named };
+
+    #[tactic(auto, using(crate::proofs::Names::no_operation))]
+    fn from_str(name: &str) -> Result<Op, UnknownOp> {
+        match name {
+            "acceptance" => Ok(Op::Acceptance),
+            "exact" => Ok(Op::Exact),
+            "longest" => Ok(Op::Longest),
+            "longest_value" => Ok(Op::LongestValue),
+            "longest_value_chained" => Ok(Op::LongestValueChained),
+            "shortest" => Ok(Op::Shortest),
+            _ => Err(UnknownOp),
+        }
     }
 }

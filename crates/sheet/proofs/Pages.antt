@@ -1,13 +1,13 @@
 -- A text is that of one sheet at most, part by part: its head, its nodes, its values.
-use Rattle.std.proofs.Common.{◌≡◌, ℕ, ◌≤◌, true, ◌||◌, eqb, List, [], ◌∷◌, ◌++◌, length, sym, refl, ap, ◌∙◌, subst, ⊎_elim, append_assoc, append-nil, arith}
+use Rattle.std.proofs.Common.{◌≡◌, ℕ, ◌<◌, ◌≤◌, true, ◌||◌, eqb, List, [], ◌∷◌, ◌++◌, length, sym, refl, ap, ◌∙◌, subst, ⊎_elim, append-nil, arith}
 use Rattle.std.proofs.lemmas.List.{nil_from_length}
 use Rattle.std.proofs.lemmas.Bool.{or_cases, eqb-true}
 use Rattle.nodes.specs.declared.node.Node.{Node}
 use Rattle.sheet.specs.declared.head.Head.{Head}
-use Rattle.sheet.specs.Columns.{Fit, Rows, line, lines}
-use Rattle.sheet.specs.Limits.{known}
+use Rattle.sheet.specs.Columns.{Fit, Rows, line, lines, NoneOf, Short, Behind}
+use Rattle.sheet.specs.Limits.{known, Limits}
 use Rattle.sheet.specs.Entries.{head_numbers, node_numbers, value_numbers, Allowed}
-use Rattle.sheet.specs.Sheets.{Contents, head_of, body, written, Within, One}
+use Rattle.sheet.specs.Sheets.{Contents, head_of, body, written, Within, One, Malformed, Wellformed, Headed, Parted}
 use Rattle.sheet.proofs.Runs.{Cancels}
 use Rattle.sheet.proofs.Rulings.{line_cancels, lines_cancel}
 
@@ -67,6 +67,7 @@ pub values_cancel : (m : ℕ) → Cancels (Rows value_numbers m) (lines value_nu
 values_cancel m = lines_cancel value_numbers 1 (λ _. refl) value_apart m
 
 pub one : One
+unfolding One
 one c d g h e =
     let heads = heads_cancel (head_of c) (head_of d) (body c) (body d) (allowed_fit (head_of c) g.0) (allowed_fit (head_of d) h.0) e in
     let nodes = nodes_cancel (length c.nodes) c.nodes d.nodes _ _ (g.1, refl) (h.1, ap (λ (x : Head). x.nodes) (sym heads.0)) heads.1 in
@@ -110,16 +111,109 @@ assembled h xs vs s r t u a e g d k f z =
       last,
     )
 
--- the parts of a sheet's text, written one behind another
-pub put_together : (c : Contents) (n v : ℕ) (xs : List Node) (vs a b d e : List ℕ)
-    → n ≡ length c.nodes → v ≡ length c.values → xs ≡ c.nodes → vs ≡ c.values → a ≡ []
-    → b ≡ a ++ line (c.width ∷ n ∷ v ∷ []) → d ≡ b ++ lines node_numbers xs → e ≡ d ++ lines value_numbers vs → e ≡ written c
-put_together c n v xs vs a b d e hn hv hx hw ha hb hd he =
-    let head : b ≡ line (head_numbers (head_of c)) =
-    hb ∙ ap (λ (z : List ℕ). z ++ line (c.width ∷ n ∷ v ∷ [])) ha
-    ∙ ap (λ (i : ℕ). line (c.width ∷ i ∷ v ∷ [])) hn ∙ ap (λ (i : ℕ). line (c.width ∷ length c.nodes ∷ i ∷ [])) hv in
-    he ∙ ap (λ (z : List ℕ). z ++ lines value_numbers vs) hd
-    ∙ ap (λ (z : List ℕ). (z ++ lines node_numbers xs) ++ lines value_numbers vs) head
-    ∙ ap (λ (ys : List Node). (line (head_numbers (head_of c)) ++ lines node_numbers ys) ++ lines value_numbers vs) hx
-    ∙ ap (λ (ys : List ℕ). (line (head_numbers (head_of c)) ++ lines node_numbers c.nodes) ++ lines value_numbers ys) hw
-    ∙ append_assoc (line (head_numbers (head_of c))) (lines node_numbers c.nodes) (lines value_numbers c.values)
+-- no line of a head within the limits
+pub no_head : (s : List ℕ) → NoneOf (λ h. Fit (head_numbers h)) (λ h. line (head_numbers h)) s → NoneOf Allowed (λ h. line (head_numbers h)) s
+unfolding NoneOf
+no_head s none h t a e = none h t (allowed_fit h a) e
+
+-- the three numbers of a line are those of a head within the limits, or the text has no such head
+-- the first part is refl: it is there so that the check finds the term
+pub head_decides : (w n v : ℕ) (r : List ℕ) → Fit (w ∷ n ∷ v ∷ []) → (line (w ∷ n ∷ v ∷ []) ++ r ≡ line (w ∷ n ∷ v ∷ []) ++ r)
+    × ((Limits w n v → ⊥) → NoneOf Allowed (λ h. line (head_numbers h)) (line (w ∷ n ∷ v ∷ []) ++ r))
+unfolding NoneOf make_head
+head_decides w n v r f = (
+  refl,
+  λ out h t a e.
+      let same = (heads_cancel (make_head w n v) h r t f (allowed_fit h a) e).0 in
+      out (subst Allowed (sym same) a),
+)
+
+-- whether a head's line is there
+pub ruleset heads = (no_head, head_decides)
+
+-- where a part is missing, or a byte is left over, the text is no sheet's
+pub malformed_head : (s : List ℕ) → NoneOf Allowed (λ h. line (head_numbers h)) s → Malformed s
+unfolding NoneOf Malformed
+malformed_head s none c w e = none (head_of c) (body c) w.0 e
+
+pub malformed_nodes : (w n v : ℕ) (r : List ℕ) → Limits w n v → Short node_numbers n r → Malformed (line (w ∷ n ∷ v ∷ []) ++ r)
+unfolding NoneOf Malformed Short make_head
+malformed_nodes w n v r a none c g e =
+    let top = head_is (make_head w n v) _ r a refl c g e in
+    none c.nodes (lines value_numbers c.values) (g.1, ap (λ (x : Head). x.nodes) top.0) top.1
+
+-- the first part gives a premise back: it is there so that the check finds the term
+pub malformed_values : (n : ℕ) (r t : List ℕ) → Behind node_numbers n r t → Behind node_numbers n r t
+    × ((w v : ℕ) → Limits w n v → Short value_numbers v t → Malformed (line (w ∷ n ∷ v ∷ []) ++ r))
+unfolding NoneOf Malformed Short Behind make_head
+malformed_values n r t b = (
+  b,
+  λ w v a none c g e.
+      let top = head_is (make_head w n v) _ r a refl c g e in
+      let same = nodes_are (make_head w n v) b.0 r t c g top.0 top.1 b.1 b.2 in
+      none c.values [] (g.2, ap (λ (x : Head). x.values) top.0) (sym same.1 ∙ sym (append-nil (lines value_numbers c.values))),
+)
+
+-- the first part gives a premise back: it is there so that the check finds the term
+pub malformed_end : (v : ℕ) (t u : List ℕ) → Behind value_numbers v t u → 0 < length u → Behind value_numbers v t u
+    × ((w n : ℕ) (r : List ℕ) → Limits w n v → Behind node_numbers n r t → Malformed (line (w ∷ n ∷ v ∷ []) ++ r))
+unfolding Malformed Behind make_head
+malformed_end v t u b l = (
+  b,
+  λ w n r a k c g e.
+      let top = head_is (make_head w n v) _ r a refl c g e in
+      let same = nodes_are (make_head w n v) k.0 r t c g top.0 top.1 k.1 k.2 in
+      let rest = values_are (make_head w n v) b.0 t u c g top.0 (sym same.1) b.1 b.2 in
+      omega (arith, ap length rest.1),
+)
+
+-- and where each part is there, it is one
+-- the first part gives a premise back: it is there so that the check finds the term
+pub parted : (s : List ℕ) (h : Head) (r t u : List ℕ) → Behind value_numbers h.values t u → length u ≡ 0 → Behind value_numbers h.values t u
+    × (Allowed h → s ≡ line (head_numbers h) ++ r → Behind node_numbers h.nodes r t → Parted s h r t)
+unfolding Behind Parted
+parted s h r t u b z = (b, λ a e k. assembled h k.0 b.0 s r t u a e k.1 k.2 b.1 b.2 z)
+
+-- each part of the text decides in turn
+pub ruleset surveys = (one, malformed_head, malformed_nodes, malformed_values, malformed_end, parted)
+
+-- a text that is parted is that of a sheet
+-- the first part gives a premise back: it is there so that the check finds the term
+pub parted_headed : (s : List ℕ) (h : Head) (r t : List ℕ) → Parted s h r t → Parted s h r t × Headed s h
+unfolding Parted Headed
+parted_headed s h r t p = (p, (p.0, p.1, p.2, p.3))
+
+-- what a check says
+pub ruleset checks = (one, parted_headed)
+
+-- the lines of a sheet's text are there
+-- the first part gives a premise back: it is there so that the check finds the term
+pub parted_lines : (s : List ℕ) (h : Head) (r t : List ℕ) → Parted s h r t → Parted s h r t × Wellformed s
+    × (Short node_numbers h.nodes r → ⊥) × (Short value_numbers h.values t → ⊥)
+unfolding Parted Wellformed Short NoneOf
+parted_lines s h r t p = (
+  p,
+  (p.0, p.1, p.3),
+  (λ none. none (p.0).nodes (lines value_numbers (p.0).values) (p.1.1, ap (λ (x : Head). x.nodes) p.2) p.4),
+  (λ none. none (p.0).values [] (p.1.2, ap (λ (x : Head). x.values) p.2) (p.5 ∙ sym (append-nil (lines value_numbers (p.0).values)))),
+)
+
+-- and those that are read are the sheet's
+-- the first part gives a premise back: it is there so that the check finds the term
+pub parted_read : (s : List ℕ) (h : Head) (r t : List ℕ) → Parted s h r t → Parted s h r t
+    × Allowed h × (s ≡ line (head_numbers h) ++ r)
+    × ((xs : List Node) (u : List ℕ) → Rows node_numbers h.nodes xs → r ≡ lines node_numbers xs ++ u
+    → (lines node_numbers xs ++ u ≡ lines node_numbers xs ++ u) × (u ≡ t))
+    × ((vs u : List ℕ) → Rows value_numbers h.values vs → t ≡ lines value_numbers vs ++ u
+    → (lines value_numbers vs ++ u ≡ lines value_numbers vs ++ u) × (t ≡ lines value_numbers vs))
+unfolding Parted
+parted_read s h r t p = (
+  p,
+  subst Allowed p.2 p.1.0,
+  p.3 ∙ ap (λ (u : List ℕ). line (head_numbers (head_of p.0)) ++ u) (sym p.4) ∙ ap (λ (x : Head). line (head_numbers x) ++ r) p.2,
+  (λ xs u g e. (refl, sym (nodes_are h xs r u p.0 p.1 p.2 p.4 g e).1 ∙ sym p.5)),
+  (λ vs u g e. (refl, p.5 ∙ ap (lines value_numbers) (values_are h vs t u p.0 p.1 p.2 p.5 g e).0)),
+)
+
+-- what reading says
+pub ruleset readings = (one, parted_lines, parted_read)

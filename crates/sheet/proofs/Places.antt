@@ -1,27 +1,20 @@
 -- The digits of a column write its number back, and no text has two columns at its front.
-use Rattle.std.proofs.Common.{◌≡◌, ℕ, zero, suc, ◌+◌, ◌-◌, ◌*◌, ◌/◌, ◌%◌, ◌^◌, ◌<◌, ◌≤◌, Bool, true, false, cond, ◌&&◌, ◌||◌, eqb, ltb, leb, List, [], ◌∷◌, ◌++◌, length, take, sym, refl, ap, ◌∙◌, subst, ⊎_elim, add-zero, pow-suc, div-add-mod', div-one, arith}
-use native.Mathlib.Nat.{div-div-eq-div-mul, div-eq_of_lt, one-le-pow, pow-le-pow_right}
-use Rattle.std.proofs.lemmas.Nat.{le-div, mod_below}
-use Rattle.std.proofs.lemmas.List.{take_at, length-take-le, append_cancel_left}
-use Rattle.std.proofs.lemmas.Bool.{cases_lt, cases_Bool, le-leb, lt-leb, lt-ltb, le-ltb, leb-true, and_parts, and_from, cond-true, cond-false, or_parts, leb-false}
+use Rattle.std.proofs.Common.{◌≡◌, ℕ, zero, suc, ◌+◌, ◌*◌, ◌/◌, ◌%◌, ◌^◌, ◌<◌, ◌≤◌, true, false, ◌||◌, eqb, leb, List, [], ◌∷◌, ◌++◌, length, get_or, take, drop, sym, refl, ap, ◌∙◌, inl, inr, ◌⊎◌, ⊎_elim, pow-suc, div-add-mod', div-one, arith}
+use native.Mathlib.Nat.{div-div-eq-div-mul, div-eq_of_lt, one-le-pow}
+use Rattle.std.proofs.lemmas.Nat.{mod_below}
+use Rattle.std.proofs.lemmas.Grind.{common_steps}
+use Rattle.std.specs.Cmp.Lexicographic.{pointwise}
+use Rattle.std.proofs.lemmas.Slice.Eq.{bytes_eq-Decides}
+use Rattle.std.proofs.lemmas.List.{take_at, append_cancel_left}
+use Rattle.std.proofs.lemmas.Bool.{cases_Bool, false≢true, le-leb, and_from, cond-true, cond-false, or_parts, leb-false}
 use Rattle.sheet.specs.Columns.{mark, marks, column, Small}
-use Rattle.sheet.specs.Guesses.{mark_at, extended, worth_after}
+use Rattle.sheet.specs.Guesses.{extended, worth_after}
 
-ten_pos : (j : ℕ) → 0 < 10 ^ j
+pub ten_pos : (j : ℕ) → 0 < 10 ^ j
 ten_pos j = one-le-pow j 10 (omega arith)
 
-pub next_rest : (n j : ℕ) → n / 10 ^ j / 10 ≡ n / 10 ^ suc j
+next_rest : (n j : ℕ) → n / 10 ^ j / 10 ≡ n / 10 ^ suc j
 next_rest n j = div-div-eq-div-mul n (10 ^ j) 10 ∙ ap (λ (p : ℕ). n / p) (sym (pow-suc 10 j))
-
-some_left : (n j : ℕ) → ltb 0 (n / 10 ^ j) ≡ leb (10 ^ j) n
-some_left n j =
-    ⊎_elim
-    (λ (h : n < 10 ^ j). le-ltb 0 (n / 10 ^ j) (omega (arith, div-eq_of_lt h)) ∙ sym (lt-leb (10 ^ j) n h))
-    (λ (h : 10 ^ j ≤ n). lt-ltb 0 (n / 10 ^ j) (omega (arith, le-div 1 n (10 ^ j) (ten_pos j) (omega arith))) ∙ sym (le-leb (10 ^ j) n h))
-    (cases_lt n (10 ^ j))
-
-pub mark_at_is : (n j : ℕ) → mark_at (n / 10 ^ j) j ≡ mark n j
-mark_at_is n j = ap (λ (b : Bool). cond (eqb j 0 || b) (48 + n / 10 ^ j % 10) 32) (some_left n j)
 
 -- a digit's mark carries the number on by one place
 digit_carries : (v r : ℕ) → r < 10 → extended v (48 + r) ≡ v * 10 + r
@@ -54,28 +47,20 @@ pub length_column : (n : ℕ) → length (column n) ≡ 11
 unfolding column
 length_column n = refl
 
-pub worth_push : (v : ℕ) (bs : List ℕ) (b : ℕ) → worth_after v (bs ++ b ∷ []) ≡ extended (worth_after v bs) b
-worth_push v [] b = refl
-worth_push v (c ∷ bs) b = worth_push (extended v c) bs b
+worth_more : (v b : ℕ) → v ≤ extended v b
+worth_more v b = grind (arith, common_steps)
 
-extended_le : (v b : ℕ) → extended v b ≤ v * 10 + 9
-extended_le v b =
-    ⊎_elim
-    (λ (e : (leb 48 b && leb b 57) ≡ true). omega (arith, cond-true _ (v * 10 + (b - 48)) v e, leb-true b 57 (and_parts _ _ e).1))
-    (λ (e : (leb 48 b && leb b 57) ≡ false). omega (arith, cond-false _ (v * 10 + (b - 48)) v e))
-    (cases_Bool (leb 48 b && leb b 57))
+-- more characters write no smaller number
+pub worth_grows : (v : ℕ) (bs : List ℕ) → v ≤ worth_after v bs
+worth_grows v [] = omega arith
+worth_grows v (b ∷ bs) = omega (arith, worth_more v b, worth_grows (extended v b) bs)
 
-worth_bound : (k v : ℕ) (bs : List ℕ) → v < 10 ^ k → worth_after v bs < 10 ^ (k + length bs)
-worth_bound k v [] h = rw add-zero h
-worth_bound k v (b ∷ bs) h =
-    let next : extended v b < 10 ^ suc k = omega (arith, extended_le v b, pow-suc 10 k) in
-    let moved : suc k + length bs ≡ k + suc (length bs) = omega arith in
-    subst (λ (e : ℕ). worth_after (extended v b) bs < 10 ^ e) moved (worth_bound (suc k) (extended v b) bs next)
-
-pub worth_lt : (i : ℕ) (s : List ℕ) → i < 11 → 11 ≤ length s → worth_after 0 (take i s) < 10 ^ 11
-worth_lt i s h l =
-    let short : 0 + length (take i s) ≤ 11 = omega (arith, length-take-le i s (omega arith)) in
-    omega (arith, worth_bound 0 0 (take i s) (omega arith), pow-le-pow_right {n = 10} (omega arith) short)
+-- a text that a column stands in front of
+-- the first part is refl: it is there so that the check finds the term
+pub column_front : (n : ℕ) (t : List ℕ) → (column n ++ t ≡ column n ++ t) × (length (column n ++ t) ≡ 11 + length t)
+    × (take 11 (column n ++ t) ≡ column n) × (drop 11 (column n ++ t) ≡ t)
+unfolding column
+column_front n t = (refl, omega arith, refl, refl)
 
 pub same_front : (n : ℕ) (s t : List ℕ) → Small n → s ≡ column n ++ t → worth_after 0 (take 11 s) ≡ n
 same_front n s t h e =
@@ -87,3 +72,40 @@ pub column_cancel : (m n : ℕ) (r t : List ℕ) → Small m → Small n → col
 column_cancel m n r t h k e =
     let same : m ≡ n = sym (same_front m (column m ++ r) r h refl) ∙ same_front n (column m ++ r) t k e in
     (same, append_cancel_left (column m) r t (e ∙ ap (λ (x : ℕ). column x ++ t) (sym same)))
+
+-- the k numbers from place i on
+abbrev spread : ℕ → ℕ → List ℕ → List ℕ
+spread zero i ns = []
+spread (suc k) i ns = get_or ns i 0 ∷ spread k (suc i) ns
+
+spread_tail : (k i n : ℕ) (ns : List ℕ) → spread k (suc i) (n ∷ ns) ≡ spread k i ns
+spread_tail zero i n ns = refl
+spread_tail (suc k) i n ns = ap (λ (ms : List ℕ). get_or ns i 0 ∷ ms) (spread_tail k (suc i) n ns)
+
+spread_all : (k : ℕ) (ns : List ℕ) → length ns ≡ k → spread k 0 ns ≡ ns
+spread_all zero [] l = refl
+spread_all zero (n ∷ ns) l = absurd (omega arith)
+spread_all (suc k) [] l = absurd (omega arith)
+spread_all (suc k) (n ∷ ns) l =
+    ap (λ (ms : List ℕ). n ∷ ms) (spread_tail k 0 n ns ∙ spread_all k ns (omega arith))
+
+-- a list of eleven numbers, by its numbers
+pub eleven : (ns : List ℕ) → length ns ≡ 11
+    → (length ns ≡ 11) × (ns ≡ get_or ns 0 0 ∷ get_or ns 1 0 ∷ get_or ns 2 0 ∷ get_or ns 3 0 ∷ get_or ns 4 0 ∷ get_or ns 5 0 ∷ get_or ns 6 0 ∷ get_or ns 7 0 ∷ get_or ns 8 0 ∷ get_or ns 9 0 ∷ get_or ns 10 0 ∷ [])
+eleven ns h = (h, sym (spread_all 11 ns h))
+
+-- a text is its first k characters and the others
+-- the first part is refl: it is there so that the check finds the term
+pub halves : (k : ℕ) (s : List ℕ) → (drop k s ≡ drop k s) × (s ≡ take k s ++ drop k s)
+halves k s = (refl, grind (arith, common_steps))
+
+-- two texts are the same, or not
+-- the first part is refl: it is there so that the check finds the term
+pub same_marks : (xs ys : List ℕ) → (pointwise eqb xs ys ≡ pointwise eqb xs ys)
+    × (((pointwise eqb xs ys ≡ true) × (xs ≡ ys)) ⊎ ((pointwise eqb xs ys ≡ false) × (xs ≡ ys → ⊥)))
+same_marks xs ys =
+    let d = bytes_eq-Decides xs ys in
+    (refl, ⊎_elim (λ t. inl (t, d.0 t)) (λ f. inr (f, λ e. false≢true (sym f ∙ d.1 e))) (cases_Bool (pointwise eqb xs ys)))
+
+-- what tells that a text begins with a column
+pub ruleset fronts = (column_front, worth_column, halves, same_marks)

@@ -42,21 +42,43 @@ Fits told xs = AllByRecursion (λ x. Fit (told x)) xs
 abbrev pub Rows : {X : Type 0} → (X → List ℕ) → ℕ → List X → Type 0
 Rows told m xs = Fits told xs × (length xs ≡ m)
 
+-- entries told by one number of numbers, each by its own
+pub record Alike {X : Type 0} (told : X → List ℕ) : Type 0 where
+  pub count : ℕ
+  pub counted : (x : X) → length (told x) ≡ count
+  pub apart : (x y : X) → told x ≡ told y → x ≡ y
+
+-- s begins with the text of no good x
+unfoldable pub NoneOf : {X : Type 0} → (X → Type 0) → (X → List ℕ) → List ℕ → Type 0
+NoneOf {X} Good text s = (x : X) (t : List ℕ) → Good x → s ≢ text x ++ t
+
 -- taken from the front of s: a good x whose text s begins with, and what follows it; or there is none
 abbrev pub Taken : {X : Type 0} → (X → Type 0) → (X → List ℕ) → List ℕ → Option (X × Bor (List ℕ)) → Type 0
-Taken {X} Good text s None = (x : X) (t : List ℕ) → Good x → s ≢ text x ++ t
+Taken Good text s None = NoneOf Good text s
 Taken Good text s (Some p) = Good p.0 × (s ≡ text p.0 ++ p.1.now)
 
 -- the same, where the x that was taken stands in a place of its own
 abbrev pub TakenTo : {X : Type 0} → (X → Type 0) → (X → List ℕ) → List ℕ → X → Option (Bor (List ℕ)) → Type 0
-TakenTo {X} Good text s y None = (x : X) (t : List ℕ) → Good x → s ≢ text x ++ t
+TakenTo Good text s y None = NoneOf Good text s
 TakenTo Good text s y (Some r) = Good y × (s ≡ text y ++ r.now)
 
--- the same, where the x that was taken is not kept
-abbrev pub Skipped : {X : Type 0} → (X → Type 0) → (X → List ℕ) → List ℕ → Option (Bor (List ℕ)) → Type 0
-Skipped {X} Good text s None = (x : X) (t : List ℕ) → Good x → s ≢ text x ++ t
-Skipped {X} Good text s (Some r) = (x : X) × Good x × (s ≡ text x ++ r.now)
+-- s does not begin with m lines
+unfoldable pub Short : {X : Type 0} → (X → List ℕ) → ℕ → List ℕ → Type 0
+Short told m s = NoneOf (Rows told m) (lines told) s
+
+-- r is what follows the m lines that s begins with
+unfoldable pub Behind : {X : Type 0} → (X → List ℕ) → ℕ → List ℕ → List ℕ → Type 0
+Behind {X} told m s r = (xs : List X) × Rows told m xs × (s ≡ lines told xs ++ r)
+
+-- m lines taken from the front of s and not kept, and what follows them; or there are none
+abbrev pub Skipped : {X : Type 0} → (X → List ℕ) → ℕ → List ℕ → Option (Bor (List ℕ)) → Type 0
+Skipped told m s None = Short told m s
+Skipped told m s (Some r) = Behind told m s r.now
 
 -- a good text put behind what stood there before
 abbrev pub Put : Type 0 → List ℕ → List ℕ → List ℕ → Type 0
 Put Good text before after = Good × (after ≡ before ++ text)
+
+-- a front part of a text put behind what stood there before
+unfoldable pub PutPart : List ℕ → List ℕ → List ℕ → Type 0
+PutPart text before after = (t : List ℕ) × (u : List ℕ) × (text ≡ t ++ u) × (after ≡ before ++ t)

@@ -1,5 +1,6 @@
 -- The numbers of each kind of line.
 use Rattle.std.specs.Prelude.{ℕ, List, [], ◌∷◌}
+use Rattle.nodes.specs.Numbers.{numbers_of}
 use Rattle.nodes.specs.declared.node.Node.{Node}
 use Rattle.sheet.specs.declared.head.Head.{Head}
 use Rattle.sheet.specs.Limits.{Limits}
@@ -8,7 +9,7 @@ abbrev pub head_numbers : Head → List ℕ
 head_numbers h = h.width ∷ h.nodes ∷ h.values ∷ []
 
 abbrev pub node_numbers : Node → List ℕ
-node_numbers n = n.data_bitmap ∷ n.child_bitmap ∷ n.data_idx ∷ n.children_idx ∷ []
+node_numbers n = numbers_of n
 
 abbrev pub value_numbers : ℕ → List ℕ
 value_numbers v = v ∷ []

@@ -28,23 +28,30 @@ abbrev pub Within : Contents → Type 0
 Within c = Allowed (head_of c) × Fits node_numbers c.nodes × Fits value_numbers c.values
 
 -- the text of some sheet within the limits, and of none
-abbrev pub Wellformed : List ℕ → Type 0
+unfoldable pub Wellformed : List ℕ → Type 0
 Wellformed s = (c : Contents) × Within c × (s ≡ written c)
 
-abbrev pub Malformed : List ℕ → Type 0
+unfoldable pub Malformed : List ℕ → Type 0
 Malformed s = (c : Contents) → Within c → s ≢ written c
 
 -- a text is that of one sheet at most
-abbrev pub One : Type 0
+unfoldable pub One : Type 0
 One = (c d : Contents) → Within c → Within d → written c ≡ written d → c ≡ d
+
+-- s is the text of a sheet with the head h
+unfoldable pub Headed : List ℕ → Head → Type 0
+Headed s h = (c : Contents) × Within c × (head_of c ≡ h) × (s ≡ written c)
 
 -- the head of a sheet's text
 abbrev pub Checked : List ℕ → Result Head ArchiveError → Type 0
-Checked s (Ok h) = (c : Contents) × Within c × (head_of c ≡ h) × (s ≡ written c)
+Checked s (Ok h) = Headed s h
 Checked s (Err e) = (number e ≡ 15) × Malformed s
 
--- the same, with what follows the head's line, and what follows the nodes' lines
+-- s is the text of a sheet with the head h, whose line r follows; and t follows the nodes' lines
+unfoldable pub Parted : List ℕ → Head → List ℕ → List ℕ → Type 0
+Parted s h r t =
+    (c : Contents) × Within c × (head_of c ≡ h) × (s ≡ written c) × (r ≡ body c) × (t ≡ lines value_numbers c.values)
+
 abbrev pub Surveyed : List ℕ → Option (Head × Bor (List ℕ) × Bor (List ℕ)) → Type 0
 Surveyed s None = Malformed s
-Surveyed s (Some p) =
-    (c : Contents) × Within c × (head_of c ≡ p.0) × (s ≡ written c) × (p.1.now ≡ body c) × (p.2.now ≡ lines value_numbers c.values)
+Surveyed s (Some p) = Parted s p.0 p.1.now p.2.now

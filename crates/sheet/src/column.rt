@@ -1,69 +1,59 @@
-ghost use Rattle.std.specs.Prelude.{◌≡◌, ◌^◌, ◌<◌};
-ghost use Rattle.sheet.specs.Columns.{Small, Taken, column};
-ghost use Rattle.sheet.specs.Guesses.{Guess, extended, mark_at};
+ghost use Rattle.std.specs.Prelude.{◌≡◌, ◌^◌, ◌<◌, ◌≤◌, MatchOption};
+ghost use Rattle.sheet.specs.Columns.{Small, Taken, column, mark};
+ghost use Rattle.sheet.specs.Guesses.{extended, worth_after};
+
+use std::array;
 
 // How many characters a column has.
 pub const WIDTH: usize = 11;
 
-// The character at place `j`, counted from the right, of a number that is `rest` from there on.
-fn mark_of(rest: u32, j: usize) -> u8
-    ensures { result ≡ mark_at rest j }
+// The character at place `j`, counted from the right, of the column of `n`.
+#[tactic(auto, using(crate::proofs::Places::ten_pos))]
+fn mark_of(n: u32, j: usize) -> u8
+    requires { j ≤ WIDTH }
+    ensures { result ≡ mark n j }
 {
-    if j == 0 || rest > 0 {
-        b'0' + (rest % 10) as u8
+    let n = u64::from(n);
+    let place = 10u64.pow(j as u32);
+    if j == 0 || place <= n {
+        b'0' + (n / place % 10) as u8
     } else {
         b' '
     }
 }
 
 // The column of `n`: its digits, with spaces before them.
+#[tactic(auto, using(crate::proofs::Places::eleven), unfolding(crate::specs::Columns::column))]
 pub fn format_column(n: u32) -> [u8; WIDTH]
     ensures { result ≡ column n }
 {
-    let mut text = [b' '; WIDTH];
-    let mut rest = n;
-    for j in 0..WIDTH {
-        text[WIDTH - 1 - j] = mark_of(rest, j);
-        rest /= 10;
-    }
-    text
+    array::from_fn(|i| mark_of(n, WIDTH - 1 - i))
 }
 
-// `value` with the digit `b` set behind it.
-fn extend(value: u64, b: u8) -> u64
-    requires { value < 10 ^ 11 }
-    ensures { result ≡ extended value b }
+// `value` with the digit `mark` set behind it, if that is below 2^32.
+fn extend(value: u32, mark: u8) -> Option<u32>
+    ensures { MatchOption result (2 ^ 32 ≤ extended value mark) (λ v. v ≡ extended value mark) }
 {
-    if b'0' <= b && b <= b'9' {
-        value * 10 + (b - b'0') as u64
-    } else {
-        value
+    match mark {
+        b'0'..=b'9' => value.checked_mul(10)?.checked_add(u32::from(mark - b'0')),
+        _ => Some(value),
     }
 }
 
-// The number that the digits among the first eleven characters write, if a column can hold it.
-fn candidate(text: &[u8]) -> Option<u32>
-    ensures { Guess text.now result }
+// The number that the digits among these characters write, if a column can hold it.
+#[tactic(auto, using(crate::proofs::Places::worth_grows))]
+fn candidate(marks: &[u8; WIDTH]) -> Option<u32>
+    ensures { MatchOption result (2 ^ 32 ≤ worth_after 0 marks.now) (λ v. v ≡ worth_after 0 marks.now) }
 {
-    if text.len() < WIDTH {
-        return None;
-    }
-    let mut value = 0u64;
-    for i in 0..WIDTH {
-        value = extend(value, text[i]);
-    }
-    if value <= u32::MAX as u64 {
-        Some(value as u32)
-    } else {
-        None
-    }
+    marks.iter().copied().try_fold(0, extend)
 }
 
 // Reads a column from the front of a text.
+#[tactic(auto, using(crate::proofs::Places::fronts), unfolding(crate::specs::Columns::NoneOf))]
 pub fn parse_column(text: &[u8]) -> Option<(u32, &[u8])>
     ensures { Taken Small column text.now result }
 {
-    let n = candidate(text)?;
-    let rest = text.strip_prefix(&format_column(n))?;
-    Some((n, rest))
+    let (marks, rest) = text.split_first_chunk::<WIDTH>()?;
+    let n = candidate(marks)?;
+    (*marks == format_column(n)).then_some((n, rest))
 }

@@ -4,15 +4,18 @@ ghost use Rattle.std.specs.Prelude.{◌≡◌, Some};
 
 use nodes::error::ArchiveError;
 use std::alloc::{AllocError, AllocFailed};
+use std::error::Error;
 use std::fmt;
 
 // Why a sheet was not read.
-#[derive(Clone, Copy, Debug)]
+#[derive(Clone, Copy, PartialEq, Eq, Debug)]
 pub enum ReadError {
     Fault(ArchiveError),
     OutOfMemory,
 }
 
+// The conversions and the text are written by hand, since clauses name the error that `?` makes and
+// what is printed of it, and thiserror's promise neither.
 impl From<ArchiveError> for ReadError {
     ghost from_gives = { λ e r. r ≡ Fault e };
 
@@ -47,3 +50,5 @@ impl fmt::Display for ReadError {
         }
     }
 }
+
+impl Error for ReadError {}

@@ -1,5 +1,5 @@
-ghost use Rattle.std.specs.Prelude.{◌≡◌, ℕ, List, ◌∷◌, length, MatchOption, OnOk, ◌≢◌};
-ghost use Rattle.sheet.specs.Columns.{Fit, Fits, Put, Row, Rows, Skipped, Taken, TakenTo, column, line, lines};
+ghost use Rattle.std.specs.Prelude.{◌≡◌, ◌≢◌, ◌*◌, ◌<◌, ◌^◌, ℕ, List, length, MatchOption, OnErr, OnOk};
+ghost use Rattle.sheet.specs.Columns.{Alike, Fit, Fits, Put, PutPart, Row, Skipped, Taken, TakenTo, column, line, lines};
 ghost use Rattle.sheet.specs.Entries.{head_numbers, node_numbers, value_numbers};
 ghost use Rattle.std.specs.List.{flat_map};
 ghost use Rattle.std.proofs.Common.{rules};
@@ -9,40 +9,32 @@ use crate::head::Head;
 use nodes::node::Node;
 use std::alloc::AllocError;
 
-// Reads columns from the front of a text, as many as `columns` has room for.
-fn parse_columns<'a>(text: &'a [u8], columns: &mut [u32]) -> Option<&'a [u8]>
-    ensures { TakenTo (Row (length columns.old)) (flat_map column) text.now columns.new result }
-{
-    let mut rest = text;
-    for i in 0..columns.len() {
-        let (n, after) = parse_column(rest)?;
-        columns[i] = n;
-        rest = after;
-    }
-    Some(rest)
-}
-
-// What follows the line's end that a text begins with.
-fn line_end(text: &[u8]) -> Option<&[u8]>
-    ensures { MatchOption result ((t : List ℕ) → text.now ≢ 10 ∷ t) (λ x. text.now ≡ 10 ∷ x.now) }
-{
-    match text.split_first() {
-        Some((b'\n', after)) => Some(after),
-        _ => None,
-    }
-}
-
 // Reads a line from the front of a text, with as many columns as `columns` has room for.
-pub fn parse_row<'a>(text: &'a [u8], columns: &mut [u32]) -> Option<&'a [u8]>
+#[tactic(auto, using(crate::proofs::Rulings::rows))]
+pub fn parse_row_into<'a>(text: &'a [u8], columns: &mut [u32]) -> Option<&'a [u8]>
     ensures { TakenTo (Row (length columns.old)) line text.now columns.new result }
 {
-    let rest = parse_columns(text, columns)?;
-    line_end(rest)
+    let mut rest = text;
+    for n in columns.iter_mut() {
+        (*n, rest) = parse_column(rest)?;
+    }
+    rest.strip_prefix(b"\n")
+}
+
+// Reads a line of N columns from the front of a text.
+pub fn parse_row<const N: usize>(text: &[u8]) -> Option<([u32; N], &[u8])>
+    ensures { Taken (Row N) line text.now result }
+{
+    let mut columns = [0; N];
+    let rest = parse_row_into(text, &mut columns)?;
+    Some((columns, rest))
 }
 
 // Writes a line of these columns behind what `out` holds.
+#[tactic(auto, using(crate::proofs::Rulings::row_written))]
 pub fn append_row(out: &mut Vec<u8>, columns: &[u32]) -> Result<(), AllocError>
-    ensures { OnOk result (Put (Fit columns.now) (line columns.now) out.old.items out.new.items) }
+    ensures ok { OnOk result (Put (Fit columns.now) (line columns.now) out.old.items out.new.items) }
+    ensures err { OnErr result (PutPart (line columns.now) out.old.items out.new.items) }
 {
     for n in columns {
         out.extend_from_slice(&format_column(*n))?;
@@ -51,124 +43,119 @@ pub fn append_row(out: &mut Vec<u8>, columns: &[u32]) -> Result<(), AllocError>
     Ok(())
 }
 
-// What a line of a fixed number of columns tells.
-pub trait Line: Copy {
+// What a line of N columns tells.
+pub trait Line<const N: usize>: Copy {
     ghost told: { Self → List ℕ };
 
-    ghost count: { ℕ };
+    // What these numbers tell, if they tell anything.
+    fn from_columns(columns: &[u32; N]) -> Option<Self>
+        ensures { MatchOption result ((x : Self) → told x ≢ columns.now) (λ x. told x ≡ columns.now) };
 
+    fn to_columns(self) -> [u32; N]
+        ensures { result ≡ told self };
+
+    #[tactic(auto, using(crate::proofs::Rulings::untold), unfolding(crate::specs::Columns::NoneOf))]
     fn parse(text: &[u8]) -> Option<(Self, &[u8])>
-        ensures { Taken (λ x. Fit (told x)) (λ x. line (told x)) text.now result };
+        ensures { Taken (λ x. Fit (told x)) (λ x. line (told x)) text.now result }
+    {
+        // Behind a reference, since the check does not cover `?` on an array of N numbers beside a text.
+        let row = parse_row(text);
+        let (columns, rest) = row.as_ref()?;
+        Some((Self::from_columns(columns)?, *rest))
+    }
 
     fn append(&self, out: &mut Vec<u8>) -> Result<(), AllocError>
-        ensures { OnOk result (Put (Fit (told self.now)) (line (told self.now)) out.old.items out.new.items) };
+        ensures ok { OnOk result (Put (Fit (told self.now)) (line (told self.now)) out.old.items out.new.items) }
+        ensures err { OnErr result (PutPart (line (told self.now)) out.old.items out.new.items) }
+    {
+        append_row(out, &self.to_columns())
+    }
 
-    ghost counted: { (x : Self) → length (told x) ≡ count };
+    // An array of N numbers can stand in memory.
+    ghost few: { N * 4 < 2 ^ 63 };
+
+    ghost counted: { (x : Self) → length (told x) ≡ N };
 
     ghost apart: { (x y : Self) → told x ≡ told y → x ≡ y };
+
+    ghost alike: { Alike told } = { record { count = N; counted = counted; apart = apart } };
 }
 
-impl Line for u32 {
+impl Line<1> for u32 {
     ghost told = { value_numbers };
 
-    ghost count = { 1 };
+    ghost few = { Prim.search rules };
 
     ghost counted = { Prim.search rules };
 
     ghost apart = { Prim.search rules };
 
-    fn parse(text: &[u8]) -> Option<(u32, &[u8])> {
-        let mut columns = [0u32; 1];
-        let rest = parse_row(text, &mut columns)?;
-        let [n] = columns;
-        Some((n, rest))
+    fn from_columns(columns: &[u32; 1]) -> Option<u32> {
+        Some(columns[0])
     }
 
-    fn append(&self, out: &mut Vec<u8>) -> Result<(), AllocError> {
-        append_row(out, &[*self])
+    fn to_columns(self) -> [u32; 1] {
+        [self]
     }
 }
 
-impl Line for Head {
+impl Line<3> for Head {
     ghost told = { head_numbers };
 
-    ghost count = { 3 };
+    ghost few = { Prim.search rules };
 
     ghost counted = { Prim.search rules };
 
     ghost apart = { Prim.search rules };
 
-    fn parse(text: &[u8]) -> Option<(Head, &[u8])> {
-        let mut columns = [0u32; 3];
-        let rest = parse_row(text, &mut columns)?;
-        let [width, nodes, values] = columns;
-        Some((
-            Head {
-                width,
-                nodes,
-                values,
-            },
-            rest,
-        ))
+    fn from_columns(columns: &[u32; 3]) -> Option<Head> {
+        Some(Head::from(*columns))
     }
 
-    fn append(&self, out: &mut Vec<u8>) -> Result<(), AllocError> {
-        append_row(out, &[self.width, self.nodes, self.values])
+    fn to_columns(self) -> [u32; 3] {
+        <[u32; 3]>::from(self)
     }
 }
 
-impl Line for Node {
+impl Line<4> for Node {
     ghost told = { node_numbers };
 
-    ghost count = { 4 };
+    ghost few = { Prim.search rules };
 
     ghost counted = { Prim.search rules };
 
     ghost apart = { Prim.search rules };
 
-    fn parse(text: &[u8]) -> Option<(Node, &[u8])> {
-        let mut columns = [0u32; 4];
-        let rest = parse_row(text, &mut columns)?;
-        let [data_bitmap, child_bitmap, data_idx, children_idx] = columns;
-        Some((
-            Node {
-                data_bitmap,
-                child_bitmap,
-                data_idx,
-                children_idx,
-            },
-            rest,
-        ))
+    fn from_columns(columns: &[u32; 4]) -> Option<Node> {
+        Some(Node::from(*columns))
     }
 
-    fn append(&self, out: &mut Vec<u8>) -> Result<(), AllocError> {
-        append_row(
-            out,
-            &[
-                self.data_bitmap,
-                self.child_bitmap,
-                self.data_idx,
-                self.children_idx,
-            ],
-        )
+    fn to_columns(self) -> [u32; 4] {
+        <[u32; 4]>::from(self)
     }
 }
 
-// Reads `count` lines from the front of a text, and keeps none.
-pub fn skip_lines<L: Line>(text: &[u8], count: u32) -> Option<&[u8]>
-    ensures { Skipped (Rows L.Line.told count) (lines L.Line.told) text.now result }
+// Reads `count` lines from the front of a text, and keeps none. As a fold over the count it was
+// tried: the proof does not close.
+#[tactic(auto, using(crate::proofs::Rulings::skipped))]
+pub fn skip_lines<L: Line<N>, const N: usize>(text: &[u8], count: u32) -> Option<&[u8]>
+    ensures { Skipped L.Line.told count text.now result }
 {
     let mut rest = text;
     for _ in 0..count {
-        let (_, after) = L::parse(rest)?;
-        rest = after;
+        (_, rest) = L::parse(rest)?;
     }
     Some(rest)
 }
 
 // Writes the lines of a list behind what `out` holds.
-pub fn append_lines<L: Line>(out: &mut Vec<u8>, xs: &[L]) -> Result<(), AllocError>
-    ensures { OnOk result (Put (Fits L.Line.told xs.now) (lines L.Line.told xs.now) out.old.items out.new.items) }
+#[tactic(auto, using(crate::proofs::Rulings::lines_written))]
+pub fn append_lines<L: Line<N>, const N: usize>(
+    out: &mut Vec<u8>,
+    xs: &[L],
+) -> Result<(), AllocError>
+    ensures ok { OnOk result (Put (Fits L.Line.told xs.now) (lines L.Line.told xs.now) out.old.items out.new.items) }
+    ensures err { OnErr result (PutPart (lines L.Line.told xs.now) out.old.items out.new.items) }
 {
     for x in xs {
         x.append(out)?;

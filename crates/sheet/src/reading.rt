@@ -19,54 +19,54 @@ pub const MAX_NODES: u32 = 512;
 pub const MAX_VALUES: u32 = 1024;
 
 // Tells whether a head is within the limits.
-fn allowed(head: Head) -> bool
-    ensures { Decides result (Allowed head) }
+fn allowed(head: &Head) -> bool
+    ensures { Decides result (Allowed head.now) }
 {
-    let known = head.width == 8 || head.width == 16 || head.width == 32;
-    known && head.nodes <= MAX_NODES && head.values <= MAX_VALUES
+    matches!(head.width, 8 | 16 | 32) && head.nodes <= MAX_NODES && head.values <= MAX_VALUES
 }
 
 // Reads the head's line from the front of a text, if it is within the limits.
+#[tactic(auto, using(crate::proofs::Pages::heads))]
 fn parse_head(text: &[u8]) -> Option<(Head, &[u8])>
     ensures { Taken Allowed (λ h. line (head_numbers h)) text.now result }
 {
-    let (head, rest) = Head::parse(text)?;
-    if allowed(head) {
-        Some((head, rest))
-    } else {
-        None
-    }
+    Head::parse(text).filter(|(head, _)| allowed(head))
 }
 
 // The head of a sheet's text, what follows its line, and what follows the nodes' lines; None of any
 // other text.
+#[tactic(auto, using(crate::proofs::Pages::surveys))]
 fn survey(text: &[u8]) -> Option<(Head, &[u8], &[u8])>
     ensures surveyed { Surveyed text.now result }
     ensures one { One }
 {
     let (head, nodes) = parse_head(text)?;
-    let values = skip_lines::<Node>(nodes, head.nodes)?;
-    let end = skip_lines::<u32>(values, head.values)?;
-    if end.is_empty() {
-        Some((head, nodes, values))
-    } else {
-        None
-    }
+    let values = skip_lines::<Node, 4>(nodes, head.nodes)?;
+    let end = skip_lines::<u32, 1>(values, head.values)?;
+    end.is_empty().then_some((head, nodes, values))
 }
 
+// The clause `one` is a law of texts, which no type keeps, so each call that reads states it.
+
 // Checks that a text is a sheet's, and gives its head. It allocates nothing.
+#[tactic(auto, using(crate::proofs::Pages::checks))]
 pub fn check(text: &[u8]) -> Result<Head, ArchiveError>
     ensures checked { Checked text.now result }
     ensures one { One }
 {
-    match survey(text) {
-        Some((head, _, _)) => Ok(head),
-        None => Err(ArchiveError::SheetMalformed),
-    }
+    survey(text)
+        .map(|(head, _, _)| head)
+        .ok_or(ArchiveError::SheetMalformed)
 }
 
-// Reads `count` lines from the front of a text.
-fn load_lines<L: Line>(heap: Global, text: &[u8], count: u32) -> Result<Vec<L>, ReadError>
+// Reads `count` lines from the front of a text. The loop counts no index and each turn pushes, so it
+// stays a `for`.
+#[tactic(auto, using(crate::proofs::Rulings::listed))]
+pub fn load_lines<L: Line<N>, const N: usize>(
+    heap: Global,
+    text: &[u8],
+    count: u32,
+) -> Result<Vec<L>, ReadError>
     ensures { Loaded L.Line.told count text.now result }
 {
     let mut items = Vec::new(heap);
@@ -80,15 +80,14 @@ fn load_lines<L: Line>(heap: Global, text: &[u8], count: u32) -> Result<Vec<L>, 
 }
 
 // Reads a sheet. A text that is no sheet's is refused as such, whatever memory there is.
+#[tactic(auto, using(crate::proofs::Pages::readings))]
 pub fn read(heap: Global, text: &[u8]) -> Result<Sheet, ReadError>
     ensures read { Read text.now result }
     ensures one { One }
 {
-    let Some((head, nodes, values)) = survey(text) else {
-        return Err(ReadError::Fault(ArchiveError::SheetMalformed));
-    };
-    let nodes = load_lines::<Node>(heap, nodes, head.nodes)?;
-    let values = load_lines::<u32>(heap, values, head.values)?;
+    let (head, nodes, values) = survey(text).ok_or(ArchiveError::SheetMalformed)?;
+    let nodes = load_lines::<Node, 4>(heap, nodes, head.nodes)?;
+    let values = load_lines::<u32, 1>(heap, values, head.values)?;
     Ok(Sheet {
         width: head.width,
         nodes,

@@ -3,7 +3,7 @@ ghost use Rattle.std.specs.Prelude.{length};
 
 use nodes::node::Node;
 
-// A sheet in memory, within the limits.
+// A sheet in memory, within the limits. The width is a number, as every definition of keys takes it.
 #[derive(Drop)]
 pub struct Sheet {
     pub width: u32,

@@ -1,8 +1,9 @@
 -- The bits of a number: under a power of two, past its end, of an and; and the ones below a place.
 use Rattle.std.proofs.Common.{◌≡◌, ℕ, zero, suc, ◌+◌, ◌-◌, ◌*◌, ◌/◌, ◌%◌, ◌^◌, ◌<◌, ◌≤◌, min, Bool, true, false, ◌&&◌, T, eqb, sym, refl, ap, ◌∙◌, subst, mod-eq_of_lt, pow-suc, add-one, one-add, arith, pow_pos, pow_mono, shr-shr}
 use native.Mathlib.Nat.{div-eq_of_lt, div-eq_of_lt-le}
-use lib.Bits.{bit_and, and_shr, and_step}
+use lib.Bits.{bit_and, and_mask, and_shr, and_step}
 use lib.Count.{ones, leading_top}
+use Rattle.std.proofs.lemmas.Nat.{one_shl}
 use lib.Pow.{field, mod-mod-pow}
 use Rattle.nodes.proofs.Counts.{ones_below_all}
 use Rattle.nodes.specs.Bitmaps.{bit, ones_below}
@@ -84,3 +85,13 @@ below_all k m h l =
     let p : 2 ^ 32 ≤ 2 ^ k = pow_mono l in
     let b : m < 2 ^ k = omega arith in
     sym (mod-eq_of_lt b)
+
+-- nor past 32 bits of a number of 32
+pub bit_end_32 : (m b : ℕ) → m < 2 ^ 32 → 32 ≤ b → bit m b ≡ false
+bit_end_32 m b h l =
+    let p : 2 ^ 32 ≤ 2 ^ b = pow_mono l in
+    bit_end m b (omega (arith, p))
+
+-- the ones below 2^k as a mask
+pub masked_below : (m k : ℕ) → k < 32 → bit_and m (1 * 2 ^ k % 4294967296 - 1) ≡ m % 2 ^ k
+masked_below m k h = ap (λ (x : ℕ). bit_and m (x - 1)) (one_shl k 32 h) ∙ and_mask m k

@@ -1,5 +1,5 @@
 -- The highest and the lowest bit that two numbers have in common: by the logarithm, by the trailing zeros, and under a mask by its rule.
-use Rattle.std.proofs.Common.{◌≡◌, ℕ, zero, suc, ◌*◌, ◌/◌, ◌%◌, ◌^◌, ◌<◌, ◌≤◌, Bool, ◌&&◌, T, Some, None, Option, sym, refl, ap, subst, inl, inr, le_of_suc-le-suc, not-suc-le-zero, pow-suc, arith, pow_pos, pow_mono, MatchOption}
+use Rattle.std.proofs.Common.{◌≡◌, ℕ, zero, suc, ◌*◌, ◌/◌, ◌%◌, ◌^◌, ◌<◌, ◌≤◌, Bool, ◌&&◌, T, Some, None, Option, sym, refl, ap, subst, inl, inr, le_of_suc-le-suc, not-suc-le-zero, pow-suc, arith, pow_pos, pow_mono, IfNone, IfSome, MatchOption}
 use lib.Bits.{bit_and}
 use lib.Count.{count_trailing_zeros, under}
 use Rattle.std.proofs.lemmas.Bool.{cases_lt}
@@ -22,8 +22,16 @@ log_is m (Some k) h = (
   λ c l g t. (let p : 2 ^ suc k ≤ 2 ^ c = pow_mono l in bit_past m c (omega (arith, h.1, p, pow-suc 2 k)) t),
 )
 
-pub log_highest : (m : ℕ) (r : Option ℕ) → MatchOption r (m ≡ 0) (λ k. (2 ^ k ≤ m) × (m < 2 * 2 ^ k) × (k < 32)) → r ≡ highest 32 (bit m)
+log_highest : (m : ℕ) (r : Option ℕ) → MatchOption r (m ≡ 0) (λ k. (2 ^ k ≤ m) × (m < 2 * 2 ^ k) × (k < 32)) → r ≡ highest 32 (bit m)
 log_highest m r h = highest_found 32 (bit m) r (log_is m r h)
+
+-- the same, as the logarithm says it
+whole : (m : ℕ) (r : Option ℕ) → IfNone r (m ≡ 0) → IfSome r (λ k. 2 ^ k ≤ m) → IfSome r (λ k. m < 2 * 2 ^ k) → IfSome r (λ k. k < 32) → MatchOption r (m ≡ 0) (λ k. (2 ^ k ≤ m) × (m < 2 * 2 ^ k) × (k < 32))
+whole m None n a b c = n
+whole m (Some k) n a b c = (a, b, c)
+
+pub log2_highest : (m : ℕ) (r : Option ℕ) → IfNone r (m ≡ 0) → IfSome r (λ k. 2 ^ k ≤ m) → IfSome r (λ k. m < 2 * 2 ^ k) → IfSome r (λ k. k < 32) → r ≡ highest 32 (bit m)
+log2_highest m r n a b c = log_highest m r (whole m r n a b c)
 
 -- no bit below t is set, and t is where it is below k
 abbrev First : ℕ → ℕ → ℕ → Type 0

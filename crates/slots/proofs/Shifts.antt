@@ -1,13 +1,7 @@
--- A shift of 64 bits or more leaves nothing, and the four bits after a depth are a shift of the key.
-use Rattle.std.proofs.Common.{◌≡◌, ℕ, ◌+◌, ◌-◌, ◌*◌, ◌/◌, ◌%◌, ◌^◌, ◌<◌, ◌≤◌, sym, ap, ◌∙◌, mul_assoc, arith, pow_mono, pow-add, shr-shr}
-use native.Mathlib.Nat.{div-eq_of_lt}
+-- The four bits after a depth are a shift of the key.
+use Rattle.std.proofs.Common.{◌≡◌, ℕ, ◌+◌, ◌-◌, ◌*◌, ◌/◌, ◌%◌, ◌^◌, ◌<◌, ◌≤◌, sym, ap, ◌∙◌, mul_assoc, arith, pow-add, shr-shr}
+use Rattle.keys.proofs.Shifts.{shifted_out}
 use lib.Pow.{mod-mod-pow, shl-shr}
-
-pub shifted_out : (a k : ℕ) → a < 2 ^ 64 → 64 ≤ k → a / 2 ^ k ≡ 0
-shifted_out a k h l =
-    let p : 2 ^ 64 ≤ 2 ^ k = pow_mono l in
-    let b : a < 2 ^ k = omega arith in
-    div-eq_of_lt b
 
 -- fewer than four bits are left
 pub four_left : (a rest : ℕ) → rest ≤ 4 → a * 2 ^ (4 - rest) % 2 ^ 64 % 16 ≡ a * 16 / 2 ^ rest % 16
@@ -22,3 +16,9 @@ four_right a rest h =
     let k : ℕ = rest - 4 in
     let e : 4 + k ≡ rest = omega arith in
     ap (λ (x : ℕ). x / 2 ^ k) (sym (shl-shr a 4)) ∙ shr-shr (a * 16) 4 k ∙ ap (λ (x : ℕ). a * 16 / 2 ^ x) e
+
+-- none is left
+pub four_past : (a rest : ℕ) → a < 2 ^ 64 → 68 ≤ rest → a * 16 / 2 ^ rest % 16 ≡ 0
+four_past a rest h l =
+    let z : a / 2 ^ (rest - 4) ≡ 0 = shifted_out a (rest - 4) h (omega arith) in
+    omega (arith, z, four_right a rest (omega arith))

@@ -1,4 +1,5 @@
-// The highest and the lowest bit that a bitmap and a mask both have.
+// The highest and the lowest bit that a bitmap and a mask both have. The two differ in the number's
+// method that they call: a parameter for it would be longer than they are.
 ghost use Rattle.nodes.specs.Bitmaps.{bit};
 ghost use Rattle.slots.specs.Picks.{highest, lowest};
 ghost use Rattle.std.specs.Prelude.{◌≡◌, ◌&&◌, bit_and};
@@ -15,6 +16,7 @@ pub fn lowest_common(bitmap: u32, mask: u32) -> Option<u32>
     lowest_bit(common(bitmap, mask))
 }
 
+#[tactic(auto, using(crate::proofs::Both::highest_and, crate::proofs::Both::lowest_and))]
 fn common(bitmap: u32, mask: u32) -> u32
     ensures value { result ≡ bit_and bitmap mask }
     ensures high { highest 32 (bit result) ≡ highest 32 (λ b. bit bitmap b && bit mask b) }
@@ -23,18 +25,16 @@ fn common(bitmap: u32, mask: u32) -> u32
     bitmap & mask
 }
 
+#[tactic(auto, using(crate::proofs::Both::log2_highest))]
 fn highest_bit(bits: u32) -> Option<u32>
     ensures { result ≡ highest 32 (bit bits) }
 {
     bits.checked_ilog2()
 }
 
+#[tactic(auto, using(crate::proofs::Both::zero_lowest, crate::proofs::Both::trailing_lowest))]
 fn lowest_bit(bits: u32) -> Option<u32>
     ensures { result ≡ lowest 32 (bit bits) }
 {
-    if bits == 0 {
-        None
-    } else {
-        Some(bits.trailing_zeros())
-    }
+    (bits != 0).then_some(bits.trailing_zeros())
 }

@@ -13,14 +13,16 @@ pub struct Loc {
 }
 
 // How many ones stand below the bit.
+#[tactic(auto, using(crate::proofs::Bits::ones_mod))]
 pub fn compute_slot(bitmap: u32, bit: u32) -> u32
     ensures { result ≡ ones_below bit bitmap }
 {
     bits_below(bitmap, bit).count_ones()
 }
 
+#[tactic(auto, using(crate::proofs::Bits::below_all, crate::proofs::Bits::masked_below))]
 fn bits_below(bitmap: u32, bit: u32) -> u32
-    ensures { (result ≡ bitmap % 2 ^ bit) × (count_ones result ≡ ones_below bit bitmap) }
+    ensures { result ≡ bitmap % 2 ^ bit }
 {
     if bit < 32 {
         bitmap & ((1 << bit) - 1)
@@ -29,6 +31,7 @@ fn bits_below(bitmap: u32, bit: u32) -> u32
     }
 }
 
+#[tactic(auto, using(crate::proofs::Bits::bit_end_32))]
 fn has_bit(bitmap: u32, bit: u32) -> bool
     ensures { result ≡ (bitmap / 2 ^ bit % 2 == 1) }
 {
@@ -47,6 +50,7 @@ fn locate(bitmap: u32, first: u32, bit: u32) -> Option<Loc>
     Some(Loc { idx, bit })
 }
 
+// The values' side of a node, and below it the children's: the two differ in the fields that they read.
 pub fn data_loc(node: &Node, bit: u32) -> Option<Loc>
     ensures { result ≡ loc_of node.now.data_bitmap node.now.data_idx bit }
 {

@@ -1,50 +1,63 @@
 // Masks of the bits on a key's path through a node, and of the bits under a block of it.
-ghost use Rattle.std.specs.Prelude.{◌≡◌, ◌-◌, min};
-ghost use Rattle.slots.specs.Masks.{child_under, data_under, mask as mask_of, next_four, on_path};
+ghost use Rattle.slots.specs.Masks.{follows, mask as mask_of, next_four};
 ghost use Rattle.slots.specs.Rules.{rule_of};
+ghost use Rattle.std.specs.Prelude.{◌≡◌, ◌-◌, ◌%◌, min, T};
 
-use crate::pattern::Rule;
+use crate::pattern::{CHILD_COVER_PATTERN, DATA_COVER_PATTERN, DATA_LPM_PATTERN, Pattern};
+use keys::wide::Wide;
 
-// The four bits of the key after the depth, with zeros past its end.
-fn next_four(width: u32, depth: u32, key: u64) -> u64
-    ensures { result ≡ next_four width depth key }
-{
-    let rest = width.saturating_sub(depth);
-    if rest < 4 {
-        (key << (4 - rest)) % 16
-    } else if rest < 68 {
-        (key >> (rest - 4)) % 16
-    } else {
-        0
+// Which bits of a node a mask has: of the blocks that contain a block the data bits, of those that
+// lie in it the data bits, or of the nodes that lie in it the child bits.
+#[derive(Clone, Copy, PartialEq, Eq, Debug)]
+pub enum Rule {
+    OnPath,
+    DataUnder,
+    ChildUnder,
+}
+
+impl Rule {
+    // The mask for the block of the key's first len bits, in a node at this depth on the key's path.
+    pub fn mask(self, key: Wide, depth: u32, len: u32) -> u32
+        ensures { result ≡ mask_of (rule_of self (min (len - depth) 4) (next_four key.width depth key.bits)) }
+    {
+        self.at(len.saturating_sub(depth), next_four(key, depth))
+    }
+
+    // The mask at a level and at four bits of a key: the last level where there is none so deep, and
+    // the last four bits of the number.
+    #[tactic(auto, using(crate::proofs::Tables::table_entry))]
+    pub fn at(self, level: u32, four: u32) -> u32
+        ensures { result ≡ mask_of (rule_of self (min level 4) (four % 16)) }
+    {
+        let table = self.table();
+        table[(16 * level.min(4) + four % 16) as usize]
+    }
+
+    // The tables are constants, and the rule picks one. A function that is handed out in its place
+    // would be refused, and is no plainer.
+    #[tactic(auto, unfolding(crate::specs::Masks::on_path, crate::specs::Masks::data_under, crate::specs::Masks::child_under))]
+    fn table(self) -> &'static Pattern
+        ensures { T (follows (rule_of self) result.now) }
+    {
+        match self {
+            Rule::OnPath => &DATA_LPM_PATTERN,
+            Rule::DataUnder => &DATA_COVER_PATTERN,
+            Rule::ChildUnder => &CHILD_COVER_PATTERN,
+        }
     }
 }
 
-// The rule's mask for a block of this length, in a node at this depth on the key's path.
-fn get_mask(width: u32, depth: u32, key: u64, len: u32, rule: Rule) -> u32
-    ensures { result ≡ mask_of (rule_of rule (min (len - depth) 4) (next_four width depth key)) }
+// The four bits of the key after the depth, with zeros past its end.
+#[tactic(auto, using(crate::proofs::Shifts::four_left, crate::proofs::Shifts::four_right, crate::proofs::Shifts::four_past))]
+fn next_four(key: Wide, depth: u32) -> u32
+    ensures { result ≡ next_four key.width depth key.bits }
 {
-    let level = len.saturating_sub(depth).min(4) as usize;
-    let table = rule.table();
-    table[16 * level + next_four(width, depth, key) as usize]
-}
-
-// The data bits of the blocks that contain the block of the key's first len bits.
-pub fn data_lpm_mask(width: u32, depth: u32, key: u64, len: u32) -> u32
-    ensures { result ≡ mask_of (on_path (min (len - depth) 4) (next_four width depth key)) }
-{
-    get_mask(width, depth, key, len, Rule::OnPath)
-}
-
-// The data bits of the blocks that lie in the block of the key's first len bits.
-pub fn data_cover_mask(width: u32, depth: u32, key: u64, len: u32) -> u32
-    ensures { result ≡ mask_of (data_under (min (len - depth) 4) (next_four width depth key)) }
-{
-    get_mask(width, depth, key, len, Rule::DataUnder)
-}
-
-// The child bits of the nodes that lie in the block of the key's first len bits.
-pub fn child_cover_mask(width: u32, depth: u32, key: u64, len: u32) -> u32
-    ensures { result ≡ mask_of (child_under (min (len - depth) 4) (next_four width depth key)) }
-{
-    get_mask(width, depth, key, len, Rule::ChildUnder)
+    let rest = key.width.saturating_sub(depth);
+    if rest < 4 {
+        ((key.bits << (4 - rest)) % 16) as u32
+    } else if rest < 68 {
+        ((key.bits >> (rest - 4)) % 16) as u32
+    } else {
+        0
+    }
 }

@@ -1,34 +1,10 @@
-// The tables of masks, and the rule that each follows.
-ghost use Rattle.slots.specs.Masks.{follows};
-ghost use Rattle.slots.specs.Rules.{rule_of};
-ghost use Rattle.std.specs.Prelude.{T};
+// The tables of masks, which are written out: a mask is looked up by its level and four bits.
 
 // At 16 * level + v: the mask at this level and at the four bits v of the key after the node's depth.
 pub(crate) type Pattern = [u32; 80];
 
-// Which bits of a node a mask has: the data bits on a key's path, or the data bits or the child bits
-// under a block.
-#[derive(Clone, Copy)]
-pub(crate) enum Rule {
-    OnPath,
-    DataUnder,
-    ChildUnder,
-}
-
-impl Rule {
-    pub(crate) fn table(self) -> &'static Pattern
-        ensures { T (follows (rule_of self) result.now) }
-    {
-        match self {
-            Rule::OnPath => &DATA_LPM_PATTERN,
-            Rule::DataUnder => &DATA_COVER_PATTERN,
-            Rule::ChildUnder => &CHILD_COVER_PATTERN,
-        }
-    }
-}
-
 // The data bits on the path of v, down to the level.
-const DATA_LPM_PATTERN: Pattern = [
+pub(crate) const DATA_LPM_PATTERN: Pattern = [
     0x00000001, 0x00000001, 0x00000001, 0x00000001, 0x00000001, 0x00000001, 0x00000001, 0x00000001,
     0x00000001, 0x00000001, 0x00000001, 0x00000001, 0x00000001, 0x00000001, 0x00000001, 0x00000001,
     0x00000003, 0x00000003, 0x00000003, 0x00000003, 0x00000003, 0x00000003, 0x00000003, 0x00000003,
@@ -42,7 +18,7 @@ const DATA_LPM_PATTERN: Pattern = [
 ];
 
 // The data bits at the level or below it that have the first bits of v.
-const DATA_COVER_PATTERN: Pattern = [
+pub(crate) const DATA_COVER_PATTERN: Pattern = [
     0x7fffffff, 0x7fffffff, 0x7fffffff, 0x7fffffff, 0x7fffffff, 0x7fffffff, 0x7fffffff, 0x7fffffff,
     0x7fffffff, 0x7fffffff, 0x7fffffff, 0x7fffffff, 0x7fffffff, 0x7fffffff, 0x7fffffff, 0x7fffffff,
     0x007f879a, 0x007f879a, 0x007f879a, 0x007f879a, 0x007f879a, 0x007f879a, 0x007f879a, 0x007f879a,
@@ -56,7 +32,7 @@ const DATA_COVER_PATTERN: Pattern = [
 ];
 
 // The child bits that have the first bits of v, as many as the level.
-const CHILD_COVER_PATTERN: Pattern = [
+pub(crate) const CHILD_COVER_PATTERN: Pattern = [
     0xffffffff, 0xffffffff, 0xffffffff, 0xffffffff, 0xffffffff, 0xffffffff, 0xffffffff, 0xffffffff,
     0xffffffff, 0xffffffff, 0xffffffff, 0xffffffff, 0xffffffff, 0xffffffff, 0xffffffff, 0xffffffff,
     0x0000ffff, 0x0000ffff, 0x0000ffff, 0x0000ffff, 0x0000ffff, 0x0000ffff, 0x0000ffff, 0x0000ffff,

@@ -6,44 +6,16 @@ mod acceptance {
     use accept::accept::accept;
     use nodes::error::ArchiveError;
     use nodes::node::Node;
+    use std::array;
 
     // A chain of nodes down to depth 30, where this data bitmap stands.
     fn chain(data_bitmap: u32) -> [Node; 7] {
-        let link = Node {
-            data_bitmap: 0,
-            child_bitmap: 1,
+        array::from_fn(|i| Node {
+            data_bitmap: if i == 6 { data_bitmap } else { 0 },
+            child_bitmap: if i == 6 { 0 } else { 1 },
             data_idx: 0,
-            children_idx: 1,
-        };
-        [
-            link,
-            Node {
-                children_idx: 2,
-                ..link
-            },
-            Node {
-                children_idx: 3,
-                ..link
-            },
-            Node {
-                children_idx: 4,
-                ..link
-            },
-            Node {
-                children_idx: 5,
-                ..link
-            },
-            Node {
-                children_idx: 6,
-                ..link
-            },
-            Node {
-                data_bitmap,
-                child_bitmap: 0,
-                data_idx: 0,
-                children_idx: 7,
-            },
-        ]
+            children_idx: i as u32 + 1,
+        })
     }
 
     #[test]
@@ -65,78 +37,57 @@ mod sheets {
     use judge::judge;
     use nodes::error::ArchiveError;
     use sheet::error::ReadError;
-    use std::alloc::Global;
-    use std::process::Abort;
-    use std::test::Fail;
-
-    fn refused(rt: &impl Abort, heap: Global, text: &str, e: ArchiveError) -> Result<(), Fail> {
-        match judge(heap, text.as_bytes()) {
-            Err(ReadError::Fault(seen)) => {
-                assert_eq!(rt; seen, e, "{}", text);
-                Ok(())
-            },
-            _ => Err(Fail::new(format_args!("not refused: {text}"))),
-        }
-    }
+    use sheet::head::Head;
 
     #[test]
-    fn accepted(rt: HostRuntime) -> Result<(), Fail> {
+    fn accepted(rt: HostRuntime) {
         let text =
             "         16          1          0\n          0          0          0          1\n";
-        match judge(rt.alloc(), text.as_bytes()) {
-            Ok(head) => {
-                assert!(rt; head.width == 16 && head.nodes == 1 && head.values == 0);
-                Ok(())
-            },
-            Err(_) => Err(Fail::new("not accepted")),
+        let head = Head {
+            width: 16,
+            nodes: 1,
+            values: 0,
+        };
+        assert_eq!(rt; judge(rt.alloc(), text.as_bytes()), Ok(head));
+    }
+
+    #[test]
+    fn malformed(rt: HostRuntime) {
+        let texts = [
+            "",
+            "         64          0          0\n",
+            "          8        513          0\n",
+            "          8          0       1025\n",
+            "         08          0          0\n",
+            "          8          0          0",
+            "          8          0          0\n\n",
+            "8                   0          0\n",
+            "          8          0          1\n 4294967296\n",
+            "          8          0          1\n          1",
+        ];
+        let malformed = ReadError::Fault(ArchiveError::SheetMalformed);
+        for text in texts {
+            assert_eq!(rt;
+                judge(rt.alloc(), text.as_bytes()),
+                Err(malformed),
+                "{}",
+                text
+            );
         }
     }
 
     #[test]
-    fn malformed(rt: HostRuntime) -> Result<(), Fail> {
-        let heap = rt.alloc();
-        let malformed = ArchiveError::SheetMalformed;
-        refused(&rt, heap, "", malformed)?;
-        refused(&rt, heap, "         64          0          0\n", malformed)?;
-        refused(&rt, heap, "          8        513          0\n", malformed)?;
-        refused(&rt, heap, "          8          0       1025\n", malformed)?;
-        refused(&rt, heap, "         08          0          0\n", malformed)?;
-        refused(&rt, heap, "          8          0          0", malformed)?;
-        refused(
-            &rt,
-            heap,
-            "          8          0          0\n\n",
-            malformed,
-        )?;
-        refused(&rt, heap, "8                   0          0\n", malformed)?;
-        refused(
-            &rt,
-            heap,
-            "          8          0          1\n 4294967296\n",
-            malformed,
-        )?;
-        refused(
-            &rt,
-            heap,
-            "          8          0          1\n          1",
-            malformed,
-        )
-    }
-
-    #[test]
-    fn faults_pass_unchanged(rt: HostRuntime) -> Result<(), Fail> {
-        let heap = rt.alloc();
-        refused(
-            &rt,
-            heap,
-            "          8          0          0\n",
-            ArchiveError::MissingRootNode,
-        )?;
-        refused(
-            &rt,
-            heap,
-            "          8          1          0\n          0          0          0          0\n",
-            ArchiveError::NodeListInconsistent,
-        )
+    fn faults_pass_unchanged(rt: HostRuntime) {
+        let no_root = "          8          0          0\n";
+        assert_eq!(rt;
+            judge(rt.alloc(), no_root.as_bytes()),
+            Err(ReadError::Fault(ArchiveError::MissingRootNode))
+        );
+        let empty_root =
+            "          8          1          0\n          0          0          0          0\n";
+        assert_eq!(rt;
+            judge(rt.alloc(), empty_root.as_bytes()),
+            Err(ReadError::Fault(ArchiveError::NodeListInconsistent))
+        );
     }
 }

@@ -10,16 +10,11 @@ fn main(rt: HostRuntime) -> io::Result<()> {
     let mut text = Vec::new(rt.alloc());
     rt.stdin().read_to_end(&mut text)?;
     match judge(rt.alloc(), text.as_slice()) {
-        Ok(head) => {
-            let width = head.width;
-            let nodes = head.nodes;
-            let values = head.values;
-            println!(rt; "accepted: keys of {width} bits, {nodes} nodes, {values} values")
-        }
-        Err(ReadError::Fault(e)) => {
-            let number = e.number();
-            println!(rt; "refused with fault {number}, {e}")
-        }
+        Ok(head) => println!(rt;
+            "accepted: keys of {} bits, {} nodes, {} values",
+            head.width, head.nodes, head.values
+        ),
+        Err(ReadError::Fault(e)) => println!(rt; "refused with fault {}, {e}", e.number()),
         Err(ReadError::OutOfMemory) => println!(rt; "not judged: out of memory"),
     }
 }

@@ -1,0 +1,25 @@
+-- What is said of the image in a sheet that was read.
+use Rattle.std.proofs.Common.{◌≡◌, ℕ, List, length, refl}
+use Rattle.nodes.specs.Faults.{given, refused}
+use Rattle.nodes.specs.declared.node.Node.{Node}
+use Rattle.sheet.specs.Sheets.{Contents, Within, written}
+use Rattle.sheet.specs.declared.head.Head.{Head}
+use Rattle.tree.specs.Verdict.{verdict}
+use Rattle.judge.specs.Judged.{Accepted, Faulty}
+
+abbrev contents : ℕ → List Node → List ℕ → Contents
+contents w ns vs = record { width = w; nodes = ns; values = vs }
+
+abbrev counts : ℕ → List Node → List ℕ → Head
+counts w ns vs = record { width = w; nodes = length ns; values = length vs }
+
+pub accepted : (t : List ℕ) (w : ℕ) (ns : List Node) (vs : List ℕ) → Within (contents w ns vs) → t ≡ written (contents w ns vs)
+    → verdict w ns (length vs) ≡ given tt → Accepted t (counts w ns vs)
+unfolding Accepted
+accepted t w ns vs g e v = (contents w ns vs, (g, e, v), refl)
+
+-- the first part is refl: it is there so that the check finds the term
+pub faulty : (w : ℕ) (ns : List Node) (vs : List ℕ) → Within (contents w ns vs) → (verdict w ns (length vs) ≡ verdict w ns (length vs))
+    × ((t : List ℕ) (k : ℕ) → t ≡ written (contents w ns vs) → verdict w ns (length vs) ≡ refused k → Faulty t k)
+unfolding Faulty
+faulty w ns vs g = (refl, λ t k e v. (contents w ns vs, (g, e, v)))

@@ -1,0 +1,182 @@
+// The search along the bits of a query's key.
+ghost use Rattle.std.specs.Prelude.{◌≡◌, ℕ, suc, ◌+◌, ◌%◌, ◌<◌, ◌≤◌, length, IfSome, Some, Option, MatchOption};
+ghost use Rattle.keys.specs.Blocks.{first_bits};
+ghost use Rattle.std.specs.Option.{option_map};
+ghost use Rattle.matches.specs.Way.{Ends, HitOn, first_hit, found_of, last_hit, longest_on, path_mask, place_on, shortest_on};
+ghost use Rattle.tree.specs.Levels.{node_at};
+ghost use Rattle.register.proofs.Spots.{spot_of};
+ghost use Rattle.register.specs.Register.{place_at};
+ghost use Rattle.slots.specs.Masks.{path_bit};
+ghost use Rattle.slots.specs.Picks.{highest, lowest};
+
+use crate::cursor::Cursor;
+use crate::found::{Found, Hit};
+use crate::query::Query;
+use nodes::node::Node;
+use slots::common::{highest_common, lowest_common};
+use slots::key::data_bit;
+use slots::loc::{child_loc, compute_slot, data_loc};
+use slots::mask::Rule;
+
+impl<'a> Query<'a> {
+    // The root.
+    fn start(&self) -> Cursor<'a>
+        ensures query { result.query ≡ self.now }
+        ensures depth { result.depth ≡ 0 }
+    {
+        Cursor {
+            query: *self,
+            at: 0,
+            depth: 0,
+        }
+    }
+
+    // The place of the block of the key's first len bits, in the node that has blocks of this length.
+    #[tactic(auto, using(crate::proofs::Nodes::slot_index))]
+    fn place_in(&self, node: u32, len: u32) -> Option<u32>
+        requires { node < length self.now.nodes.now }
+        ensures { result ≡ place_at self.now.nodes.now (spot_of self.now.key.width self.now.key.bits len node (len % 5)) }
+    {
+        let loc = data_loc(&self.nodes[node as usize], data_bit(self.key, len))?;
+        Some(loc.idx)
+    }
+
+    // What is found at a hit. Its bit is set, so its value has a place.
+    #[tactic(auto, using(crate::proofs::Nodes::hit_below, crate::proofs::Nodes::hit_fits, crate::proofs::Nodes::hit_found))]
+    fn found(&self, hit: Hit) -> Found
+        requires { HitOn self.now.key.width self.now.nodes.now self.now.key.bits hit }
+        ensures { Some result ≡ found_of self.now.key.width self.now.nodes.now self.now.key.bits hit.len }
+    {
+        let node = &self.nodes[hit.node as usize];
+        let slot = compute_slot(node.data_bitmap, data_bit(self.key, hit.len));
+        Found {
+            place: node.data_idx + slot,
+            len: hit.len,
+        }
+    }
+
+    // The place of the value of the whole block that is asked for.
+    #[tactic(auto, using(crate::proofs::Ways::at_in, crate::proofs::Ways::exact_none, crate::proofs::Ways::exact_some))]
+    pub(crate) fn exact(&self) -> Option<u32>
+        ensures { result ≡ place_on self.now.key.width self.now.nodes.now self.now.key.bits self.now.len }
+    {
+        let mut cursor = self.start();
+        while cursor.depth + Node::LEVELS <= self.len {
+            cursor = cursor.child()?;
+        }
+        self.place_in(cursor.at, self.len)
+    }
+
+    // The longest block on the key's path that has a value, within the length. What goes on from turn
+    // to turn is a cursor, no index, and the shortest stops where this one goes on. As a call it would
+    // take the query through memory, a tenth more instructions.
+    #[inline(always)]
+    #[tactic(auto, using(crate::proofs::Ways::longest_next, crate::proofs::Ways::longest_whole, crate::proofs::Ways::longest_nothing, crate::proofs::Ways::longest_hit_on))]
+    pub(crate) fn longest(&self) -> Option<Found>
+        ensures { result ≡ longest_on self.now.key.width self.now.nodes.now self.now.key.bits self.now.len }
+    {
+        let mut cursor = self.start();
+        let mut best = None;
+        loop {
+            best = cursor.longest().or(best);
+            match cursor.child() {
+                Some(next) => cursor = next,
+                None => return Some(self.found(best?)),
+            }
+        }
+    }
+
+    // The shortest such block.
+    #[inline(always)]
+    #[tactic(auto, using(crate::proofs::Ways::shortest_next, crate::proofs::Ways::shortest_hit_on, crate::proofs::Ways::shortest_last))]
+    pub(crate) fn shortest(&self) -> Option<Found>
+        ensures { result ≡ shortest_on self.now.key.width self.now.nodes.now self.now.key.bits self.now.len }
+    {
+        let mut cursor = self.start();
+        loop {
+            if let Some(hit) = cursor.shortest() {
+                return Some(self.found(hit));
+            }
+            cursor = cursor.child()?;
+        }
+    }
+}
+
+impl<'a> Cursor<'a> {
+    #[tactic(auto, using(crate::proofs::Nodes::in_list))]
+    fn node(&self) -> &'a Node
+        ensures { result.now ≡ node_at self.now.query.nodes.now self.now.at }
+    {
+        &self.query.nodes[self.at as usize]
+    }
+
+    // The key's five bits after the depth, which are its child bit. Here they are known to be within
+    // the key, so no shift has to be tested.
+    fn next_five(&self) -> u32
+        requires { self.now.depth + 5 ≤ self.now.query.len }
+        ensures { result ≡ first_bits self.now.query.key.width (self.now.depth + 5) self.now.query.key.bits % 32 }
+    {
+        let rest = self.query.key.width - (self.depth + Node::LEVELS);
+        ((self.query.key.bits >> rest) % 32) as u32
+    }
+
+    // The node that the key's next five bits lead to, where the length goes so far and the child is there.
+    #[tactic(auto, using(crate::proofs::Nodes::child_some, crate::proofs::Nodes::child_none))]
+    fn child(&self) -> Option<Cursor<'a>>
+        ensures { MatchOption result (Ends self.now.query.key.width self.now.query.nodes.now self.now.query.key.bits self.now.query.len self.now.depth) (λ next. (next.query ≡ self.now.query) × (next.depth ≡ self.now.depth + 5)) }
+    {
+        let depth = self.depth + Node::LEVELS;
+        if self.query.len < depth {
+            return None;
+        }
+        let loc = child_loc(self.node(), self.next_five())?;
+        Some(Cursor {
+            query: self.query,
+            at: loc.idx,
+            depth,
+        })
+    }
+
+    // The data bits of the blocks on the key's path that are within the length.
+    #[tactic(auto, using(crate::proofs::Nodes::whole_path))]
+    fn path(&self) -> u32
+        ensures { result ≡ path_mask self.now.query.key.width self.now.query.key.bits self.now.query.len self.now.depth }
+    {
+        if self.depth + Node::LEVELS <= self.query.len {
+            // the first four of the five bits that the child takes
+            Rule::OnPath.at(Node::LEVELS - 1, self.next_five() / 2)
+        } else {
+            Rule::OnPath.mask(self.query.key, self.depth, self.query.len)
+        }
+    }
+
+    // The hit of a data bit.
+    #[tactic(auto, using(crate::proofs::Steps::hit_level))]
+    fn hit(&self, bit: Option<u32>) -> Option<Hit>
+        requires { IfSome bit (λ b. b < 32) }
+        ensures { (v : ℕ) (o : Option ℕ) → v < 16 → IfSome o (λ l. l ≤ 4) → bit ≡ option_map (path_bit v) o → result ≡ option_map (λ l. record { node = self.now.at; len = self.now.depth + l }) o }
+    {
+        let bit = bit?;
+        Some(Hit {
+            node: self.at,
+            len: self.depth + (bit + 1).ilog2(),
+        })
+    }
+
+    // The longest block on the key's path in this node that has a value, within the length. It and
+    // the shortest differ in what they call: a trait with a law for both would be longer than the two.
+    #[tactic(auto, using(crate::proofs::Nodes::highest_below, crate::proofs::Nodes::longest_here))]
+    fn longest(&self) -> Option<Hit>
+        ensures { result ≡ last_hit self.now.query.key.width self.now.query.nodes.now self.now.query.key.bits self.now.query.len self.now.depth }
+    {
+        self.hit(highest_common(self.node().data_bitmap, self.path()))
+    }
+
+    // The shortest such block.
+    #[tactic(auto, using(crate::proofs::Nodes::lowest_below, crate::proofs::Nodes::shortest_here))]
+    fn shortest(&self) -> Option<Hit>
+        ensures { result ≡ first_hit self.now.query.key.width self.now.query.nodes.now self.now.query.key.bits self.now.query.len self.now.depth }
+    {
+        self.hit(lowest_common(self.node().data_bitmap, self.path()))
+    }
+}

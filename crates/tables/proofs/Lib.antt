@@ -1,0 +1,4 @@
+pub mod Cells
+pub mod NodeWords
+pub mod Numerals
+pub mod Widths
