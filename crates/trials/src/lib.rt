@@ -91,3 +91,44 @@ mod sheets {
         );
     }
 }
+
+#[cfg(test)]
+mod refusals {
+    use accept::accept::accept;
+    use accept::image::Image;
+    use matches::{get, get_lpm, get_spm, value};
+    use nodes::error::ArchiveError;
+    use nodes::node::Node;
+    use prefix::pair::Pair;
+    use std::test::Fail;
+
+    // Two nodes and six values under keys of 8 bits.
+    #[test]
+    fn refused_queries(rt: HostRuntime) -> Result<(), Fail> {
+        let nodes = [
+            Node::from([66, 4_194_304, 0, 1]),
+            Node::from([24_610, 0, 2, 2]),
+        ];
+        let values = [11u32, 12, 13, 14, 15, 16];
+        if let Err(_) = accept::<u8, u32>(&nodes, &values) {
+            return Err(Fail::new("not accepted"));
+        }
+        let image = Image::new::<u8>(&nodes, &values);
+        let long = Pair {
+            repr: 178u8,
+            len: 9,
+        };
+        assert_eq!(rt; get(&image, &long), Err(ArchiveError::LengthExceedsKey));
+        assert_eq!(rt; get_lpm(&image, &long), Err(ArchiveError::LengthExceedsKey));
+        assert_eq!(rt; get_spm(&image, &long), Err(ArchiveError::LengthExceedsKey));
+        let wide = Pair {
+            repr: 178u32,
+            len: 40,
+        };
+        assert_eq!(rt; get(&image, &wide), Err(ArchiveError::KeyWidthDiffers));
+        assert_eq!(rt; get_lpm(&image, &wide), Err(ArchiveError::KeyWidthDiffers));
+        assert_eq!(rt; get_spm(&image, &wide), Err(ArchiveError::KeyWidthDiffers));
+        assert_eq!(rt; value(&image, 6), Err(ArchiveError::NoSuchPlace));
+        Ok(())
+    }
+}

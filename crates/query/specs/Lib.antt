@@ -1,0 +1,6 @@
+pub mod Lines
+pub mod Spellings
+pub mod Sites
+pub mod Inputs
+pub mod Replies
+pub mod Responses
