@@ -2,7 +2,8 @@
 ghost use Rattle.std.specs.Prelude.{◌≡◌, true};
 ghost use Rattle.std.proofs.Common.{rules};
 
-use anyhow::Context;
+use anyhow::{Context, anyhow};
+use coverage::AddressCount;
 use keys::Key;
 use nodes::error::{ArchiveError, NoSuchFault};
 use prefix::Prefix;
@@ -127,6 +128,106 @@ impl<T: fmt::Display> fmt::Display for Answer<T> {
             Ok(None) => write!(f, "none"),
             Ok(Some(found)) => write!(f, "{found}"),
             Err(refusal) => write!(f, "{refusal}"),
+        }
+    }
+}
+
+// What an answer is counted as.
+#[derive(Clone, Copy, PartialEq, Eq)]
+pub enum Kind {
+    Found,
+    Nothing,
+    Refused(Refusal),
+}
+
+// An answer of a call.
+pub trait Answered: Copy + Eq + fmt::Display + Drop {
+    fn kind(&self) -> Kind;
+
+    // Answers that compare equal are the same.
+    ghost same: { (x y : Self) → Self.eq x y ≡ true → x ≡ y };
+}
+
+impl<T: Found> Answered for Answer<T> {
+    ghost same = { Prim.search rules };
+
+    fn kind(&self) -> Kind {
+        match &self.0 {
+            Ok(Some(_)) => Kind::Found,
+            Ok(None) => Kind::Nothing,
+            Err(refusal) => Kind::Refused(*refusal),
+        }
+    }
+}
+
+// Whether a block is covered, `1` or `0`, or a refusal.
+#[derive(Clone, Copy, PartialEq, Eq)]
+pub struct Coverage(pub Result<bool, Refusal>);
+
+impl FromStr for Coverage {
+    type Err = anyhow::Error;
+
+    fn from_str(word: &str) -> anyhow::Result<Coverage> {
+        match word {
+            "1" => Ok(Coverage(Ok(true))),
+            "0" => Ok(Coverage(Ok(false))),
+            _ => Err(anyhow!("a block is covered, 1, or not, 0")),
+        }
+    }
+}
+
+impl fmt::Display for Coverage {
+    fn fmt<W: fmt::Write>(&self, f: &mut fmt::Formatter<W>) -> fmt::Result {
+        match &self.0 {
+            Ok(covered) => write!(f, "{}", u8::from(*covered)),
+            Err(refusal) => write!(f, "{refusal}"),
+        }
+    }
+}
+
+impl Answered for Coverage {
+    ghost same = { Prim.search rules };
+
+    fn kind(&self) -> Kind {
+        match &self.0 {
+            Ok(true) => Kind::Found,
+            Ok(false) => Kind::Nothing,
+            Err(refusal) => Kind::Refused(*refusal),
+        }
+    }
+}
+
+// How many addresses are matched: a number, or `whole`.
+#[derive(Clone, Copy, PartialEq, Eq)]
+pub struct Count(pub AddressCount);
+
+impl FromStr for Count {
+    type Err = ParseIntError;
+
+    fn from_str(word: &str) -> Result<Count, ParseIntError> {
+        match word {
+            "whole" => Ok(Count(AddressCount::Whole)),
+            _ => Ok(Count(AddressCount::Number(word.parse::<u64>()?))),
+        }
+    }
+}
+
+impl fmt::Display for Count {
+    fn fmt<W: fmt::Write>(&self, f: &mut fmt::Formatter<W>) -> fmt::Result {
+        match &self.0 {
+            AddressCount::Number(count) => write!(f, "{count}"),
+            AddressCount::Whole => write!(f, "whole"),
+        }
+    }
+}
+
+impl Answered for Count {
+    ghost same = { Prim.search rules };
+
+    fn kind(&self) -> Kind {
+        match &self.0 {
+            AddressCount::Number(_) => Kind::Found,
+            AddressCount::Whole => Kind::Nothing,
         }
     }
 }

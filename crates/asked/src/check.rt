@@ -1,6 +1,6 @@
 // The queries of an image, asked and compared.
-use crate::answer::{Answer, Found};
-use crate::ask::{ask_pair, ask_span, ask_value};
+use crate::answer::{Answer, Answered, Coverage, Found};
+use crate::ask::{ask_count, ask_pair, ask_span, ask_value, pair_covered, span_covered};
 use crate::pair::AnyPair;
 use crate::question::{Answers, Question};
 use crate::section::Section;
@@ -21,12 +21,7 @@ struct Check<'a, 'b> {
 }
 
 impl<'a, 'b> Check<'a, 'b> {
-    fn compare<T: Found>(
-        &mut self,
-        call: Call,
-        theirs: &Answer<T>,
-        ours: &Answer<T>,
-    ) -> anyhow::Result<()> {
+    fn compare<A: Answered>(&mut self, call: Call, theirs: &A, ours: &A) -> anyhow::Result<()> {
         if ours != theirs {
             println!(self.rt;
                 "line {}: {call}: the table has {theirs}, the library answers {ours}",
@@ -72,6 +67,17 @@ impl<'a, 'b> Check<'a, 'b> {
         self.compare(Call::SpanShortest, &theirs.shortest, &ours.shortest)
     }
 
+    // The same answer through a span, where the pair has one.
+    fn check_coverage(&mut self, pair: &AnyPair, theirs: &Coverage) -> anyhow::Result<()> {
+        let ours = pair_covered(self.image, pair);
+        self.compare(Call::Coverage, theirs, &ours)?;
+        let Some(span) = pair.to_span() else {
+            return Ok(());
+        };
+        let ours = span_covered(self.image, &span);
+        self.compare(Call::SpanCoverage, theirs, &ours)
+    }
+
     fn check_question(&mut self, question: &Question) -> anyhow::Result<()> {
         match question {
             Question::Match(pair, theirs) => {
@@ -79,6 +85,11 @@ impl<'a, 'b> Check<'a, 'b> {
                 self.check_span(pair, theirs)
             }
             Question::Value(place, theirs) => self.check_value(*place, theirs),
+            Question::Coverage(pair, theirs) => self.check_coverage(pair, theirs),
+            Question::Count(theirs) => {
+                let ours = ask_count(self.image);
+                self.compare(Call::Count, theirs, &ours)
+            }
         }
     }
 }

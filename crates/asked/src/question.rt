@@ -1,8 +1,11 @@
 // A query of the table, with the answers that it has:
 // `ask KEY/LEN EXACT LONGEST SHORTEST`, the crate's answers to a pair of the image's width;
 // `refuse WIDTH KEY/LEN FAULT`, a pair of any width that all three matches turn down;
-// `value PLACE`, a place whose value is the place; `refuse-value PLACE FAULT`, one that has none.
-use crate::answer::{Answer, Entry, Refusal};
+// `value PLACE`, a place whose value is the place; `refuse-value PLACE FAULT`, one that has none;
+// `covered KEY/LEN COVERED`, the crate's answer, `1` or `0`, to whether the block of a pair of the
+// image's width is covered; `refuse-covered WIDTH KEY/LEN FAULT`, a pair for which that is turned down;
+// `count COUNT`, the number of addresses that the crate gives, or `whole`.
+use crate::answer::{Answer, Count, Coverage, Entry, Refusal};
 use crate::pair::AnyPair;
 use anyhow::{Context, anyhow};
 use tables::width::Width;
@@ -30,6 +33,8 @@ impl From<Refusal> for Answers {
 pub enum Question {
     Match(AnyPair, Answers),
     Value(u32, Answer<u32>),
+    Coverage(AnyPair, Coverage),
+    Count(Count),
 }
 
 impl Question {
@@ -61,7 +66,19 @@ impl Question {
                 let refusal = words.next().context("no fault")?.parse::<Refusal>()?;
                 Question::Value(place, Answer(Err(refusal)))
             }
-            _ => return Err(anyhow!("a query is ask, refuse, value or refuse-value")),
+            "covered" => {
+                let pair = AnyPair::parse(width, words.next().context("no pair")?)?;
+                let covered = words.next().context("no answer")?.parse::<Coverage>()?;
+                Question::Coverage(pair, covered)
+            }
+            "refuse-covered" => {
+                let width = words.next().context("no width")?.parse::<Width>()?;
+                let pair = AnyPair::parse(width, words.next().context("no pair")?)?;
+                let refusal = words.next().context("no fault")?.parse::<Refusal>()?;
+                Question::Coverage(pair, Coverage(Err(refusal)))
+            }
+            "count" => Question::Count(words.next().context("no count")?.parse::<Count>()?),
+            _ => return Err(anyhow!("no query begins with this word")),
         };
         if words.next().is_some() {
             return Err(anyhow!("a word too many"));

@@ -1,7 +1,7 @@
 // How many calls there were of each kind and answer, at each width.
 ghost use Rattle.std.specs.Prelude.{◌≡◌, ◌+◌, ◌-◌, ◌^◌, min, ◌≢◌};
 
-use crate::answer::{Answer, Entry, Found, Refusal};
+use crate::answer::{Answer, Answered, Entry, Kind, Refusal};
 use nodes::error::ArchiveError;
 use nodes::node::Node;
 use std::fmt;
@@ -9,7 +9,8 @@ use tables::compared::{Compared, add_one};
 use tables::row::{Row, place_of};
 use tables::width::Width;
 
-// The calls of the library. The first three are made with a pair, the next three with a span.
+// The calls of the library. Those named after a span are made with one, the others of a block with a
+// pair.
 #[derive(Clone, Copy, PartialEq, Eq)]
 pub enum Call {
     Exact,
@@ -19,6 +20,20 @@ pub enum Call {
     SpanLongest,
     SpanShortest,
     Value,
+    Coverage,
+    SpanCoverage,
+    Count,
+}
+
+impl Call {
+    // What its rows call an answer that finds something, and one that does not.
+    fn kinds(self) -> (&'static str, &'static str) {
+        match self {
+            Call::Coverage | Call::SpanCoverage => ("yes", "no"),
+            Call::Count => ("a number", "whole"),
+            _ => ("found", "none"),
+        }
+    }
 }
 
 impl fmt::Display for Call {
@@ -31,6 +46,9 @@ impl fmt::Display for Call {
             Call::SpanLongest => "longest match of a span",
             Call::SpanShortest => "shortest match of a span",
             Call::Value => "value",
+            Call::Coverage => "covered",
+            Call::SpanCoverage => "covered, of a span",
+            Call::Count => "address count",
         })
     }
 }
@@ -50,11 +68,11 @@ impl Rows {
         refused: Row::NONE,
     };
 
-    fn bump<T>(&mut self, width: Width, answer: &Answer<T>) {
-        match &answer.0 {
-            Ok(Some(_)) => self.found.bump(width),
-            Ok(None) => self.nothing.bump(width),
-            Err(_) => self.refused.bump(width),
+    fn bump(&mut self, width: Width, kind: Kind) {
+        match kind {
+            Kind::Found => self.found.bump(width),
+            Kind::Nothing => self.nothing.bump(width),
+            Kind::Refused(_) => self.refused.bump(width),
         }
     }
 }
@@ -62,7 +80,7 @@ impl Rows {
 #[derive(Drop)]
 pub struct Tally {
     images: Row,
-    calls: [(Call, Rows); 7],
+    calls: [(Call, Rows); 10],
     // A row for each level of nodes: the level is the index.
     depths: [Row; 13],
     faults: [(ArchiveError, Row); 3],
@@ -84,6 +102,9 @@ impl Tally {
                 (Call::SpanLongest, Rows::NONE),
                 (Call::SpanShortest, Rows::NONE),
                 (Call::Value, Rows::NONE),
+                (Call::Coverage, Rows::NONE),
+                (Call::SpanCoverage, Rows::NONE),
+                (Call::Count, Rows::NONE),
             ],
             depths: [Row::NONE; 13],
             faults: [
@@ -107,22 +128,17 @@ impl Tally {
     }
 
     // Counts a call under the answer that the table has.
-    pub(crate) fn count<T: Found>(
-        &mut self,
-        width: Width,
-        call: Call,
-        theirs: &Answer<T>,
-        ours: &Answer<T>,
-    )
+    pub(crate) fn count<A: Answered>(&mut self, width: Width, call: Call, theirs: &A, ours: &A)
         ensures queries { self.new.queries.answers ≡ min (self.old.queries.answers + 1) (2 ^ 64 - 1) }
         ensures agree { ours.now ≡ theirs.now → self.new.queries.differ ≡ self.old.queries.differ }
         ensures differ { (ours.now ≢ theirs.now) → self.new.queries.differ ≡ min (self.old.queries.differ + 1) (2 ^ 64 - 1) }
     {
         self.queries.count(ours == theirs);
+        let kind = theirs.kind();
         if let Some(place) = place_of(&self.calls, &call) {
-            self.calls[place].1.bump(width, theirs);
+            self.calls[place].1.bump(width, kind);
         }
-        if let Err(Refusal(Ok(fault))) = theirs.0
+        if let Kind::Refused(Refusal(Ok(fault))) = kind
             && let Some(place) = place_of(&self.faults, &fault)
         {
             self.faults[place].1.bump(width);
@@ -148,8 +164,9 @@ impl fmt::Display for Tally {
         writeln!(f, "       8      16      32      64  bits")?;
         writeln!(f, "{}  images", self.images)?;
         for (call, rows) in &self.calls {
-            writeln!(f, "{}  {call}, found", rows.found)?;
-            writeln!(f, "{}  {call}, none", rows.nothing)?;
+            let (found, nothing) = call.kinds();
+            writeln!(f, "{}  {call}, {found}", rows.found)?;
+            writeln!(f, "{}  {call}, {nothing}", rows.nothing)?;
             writeln!(f, "{}  {call}, refused", rows.refused)?;
         }
         for (row, depth) in self

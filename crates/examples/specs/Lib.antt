@@ -1,3 +1,4 @@
 pub mod Images
 pub mod Acceptance
 pub mod Matches
+pub mod Addresses

@@ -2,6 +2,7 @@
 #![tactic(auto)]
 
 ghost use Rattle.examples.specs.Acceptance.{AcceptedLists, RefusedLists};
+ghost use Rattle.examples.specs.Addresses.{Addresses};
 ghost use Rattle.examples.specs.Matches.{Matches, Registers};
 ghost use Rattle.std.specs.Prelude.{◌≡◌};
 
@@ -12,7 +13,8 @@ pub fn examples_stand() -> u32
     ensures refusals { RefusedLists }
     ensures registers { Registers }
     ensures matches { Matches }
-    ensures count { result ≡ 18 }
+    ensures addresses { Addresses }
+    ensures count { result ≡ 23 }
 {
-    18
+    23
 }

@@ -1,11 +1,13 @@
 -- What is said of the image in a sheet that was read.
 use Rattle.std.proofs.Common.{◌≡◌, ℕ, List, length, refl}
+use Rattle.coverage.specs.declared.AddressCount.{AddressCount}
 use Rattle.nodes.specs.Faults.{given, refused}
 use Rattle.nodes.specs.declared.node.Node.{Node}
 use Rattle.sheet.specs.Sheets.{Contents, Within, written}
 use Rattle.sheet.specs.declared.head.Head.{Head}
 use Rattle.tree.specs.Verdict.{verdict}
-use Rattle.judge.specs.Judged.{Accepted, Faulty}
+use Rattle.judge.specs.declared.report.Report.{Report}
+use Rattle.judge.specs.Judged.{Accepted, Faulty, Matches}
 
 abbrev contents : ℕ → List Node → List ℕ → Contents
 contents w ns vs = record { width = w; nodes = ns; values = vs }
@@ -13,10 +15,13 @@ contents w ns vs = record { width = w; nodes = ns; values = vs }
 abbrev counts : ℕ → List Node → List ℕ → Head
 counts w ns vs = record { width = w; nodes = length ns; values = length vs }
 
-pub accepted : (t : List ℕ) (w : ℕ) (ns : List Node) (vs : List ℕ) → Within (contents w ns vs) → t ≡ written (contents w ns vs)
-    → verdict w ns (length vs) ≡ given tt → Accepted t (counts w ns vs)
+abbrev report : ℕ → List Node → List ℕ → AddressCount → Report
+report w ns vs n = record { head = counts w ns vs; addresses = n }
+
+pub accepted : (t : List ℕ) (w : ℕ) (ns : List Node) (vs : List ℕ) (n : AddressCount) → Within (contents w ns vs) → t ≡ written (contents w ns vs)
+    → verdict w ns (length vs) ≡ given tt → Matches w ns vs n → Accepted t (report w ns vs n)
 unfolding Accepted
-accepted t w ns vs g e v = (contents w ns vs, (g, e, v), refl)
+accepted t w ns vs n g e v m = (contents w ns vs, (g, e, v), refl, m)
 
 -- the first part is refl: it is there so that the check finds the term
 pub faulty : (w : ℕ) (ns : List Node) (vs : List ℕ) → Within (contents w ns vs) → (verdict w ns (length vs) ≡ verdict w ns (length vs))

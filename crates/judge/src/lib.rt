@@ -1,39 +1,56 @@
 // A sheet's text, from its bytes to the verdict on the image in it.
 #![tactic(auto)]
 
-ghost use Rattle.judge.specs.Judged.{Judged};
-ghost use Rattle.nodes.specs.Faults.{answer};
-ghost use Rattle.std.specs.Prelude.{◌≡◌, length};
-ghost use Rattle.tree.specs.Verdict.{verdict};
+ghost use Rattle.judge.specs.Judged.{Counted, Judged};
+ghost use Rattle.std.specs.Prelude.{◌≡◌};
 
+use crate::report::Report;
 use accept::accept::accept;
+use accept::image::Image;
+use coverage::{AddressCount, address_count};
+use keys::Key;
 use nodes::error::ArchiveError;
+use nodes::node::Node;
 use sheet::error::ReadError;
-use sheet::head::Head;
 use sheet::reading::read;
 use sheet::sheet::Sheet;
 use std::alloc::Global;
 
-// The verdict on the lists of a sheet, under keys of its width. A width picks a type parameter,
-// which takes an arm for each.
-pub fn accept_sheet(s: &Sheet) -> Result<(), ArchiveError>
-    ensures { answer result ≡ verdict s.now.width s.now.nodes.items (length s.now.values.items) }
+pub mod report;
+
+// Accepts two lists under keys of this kind, and counts the addresses that their image matches.
+fn count_accepted<K: Key>(nodes: &[Node], values: &[u32]) -> Result<AddressCount, ArchiveError>
+    ensures { Counted K.Key.width nodes.now values.now result }
+{
+    accept::<K, u32>(nodes, values)?;
+    Ok(address_count(&Image::new::<K>(nodes, values)))
+}
+
+// The same of the lists of a sheet, under keys of its width. A width picks a type parameter, which
+// takes an arm for each.
+pub fn count_sheet(s: &Sheet) -> Result<AddressCount, ArchiveError>
+    ensures count { Counted s.now.width s.now.nodes.items s.now.values.items result }
+    ensures same { s.exit.now ≡ s.entry.now }
 {
     let nodes = s.nodes.as_slice();
     let values = s.values.as_slice();
     match s.width {
-        8 => accept::<u8, u32>(nodes, values),
-        16 => accept::<u16, u32>(nodes, values),
-        _ => accept::<u32, u32>(nodes, values),
+        8 => count_accepted::<u8>(nodes, values),
+        16 => count_accepted::<u16>(nodes, values),
+        _ => count_accepted::<u32>(nodes, values),
     }
 }
 
-// The head of a sheet whose image is accepted, or why there is none.
+// The report on a sheet whose image is accepted, or why there is none.
 #[tactic(auto, using(crate::proofs::Images::accepted, crate::proofs::Images::faulty))]
-pub fn judge(heap: Global, text: &[u8]) -> Result<Head, ReadError>
-    ensures { Judged text.now result }
+pub fn judge(heap: Global, text: &[u8]) -> Result<Report, ReadError>
+    ensures judged { Judged text.now result }
+    ensures same { text.exit.now ≡ text.entry.now }
 {
     let s = read(heap, text)?;
-    accept_sheet(&s)?;
-    Ok(s.head())
+    let addresses = count_sheet(&s)?;
+    Ok(Report {
+        head: s.head(),
+        addresses,
+    })
 }

@@ -155,12 +155,12 @@ module _ {A : Type 0} (w : ℕ) (ns : List Node) (vs : List A) (sound : Sound w 
 
 -- the same, of a query on the nodes of an image
 module _ {A : Type 0} (q : Query) (i : Image A) (wide : q.key.width ≡ i.width) (lent : q.nodes.now ≡ i.nodes.now) where
-  sound_with : Sound q.key.width q.nodes.now (length i.values.now)
+  pub sound_with : Sound q.key.width q.nodes.now (length i.values.now)
   sound_with =
       let s = sound_of i.width i.nodes.now (length i.values.now) i.accepted in
       subst (λ (w : ℕ). Sound w q.nodes.now (length i.values.now)) (sym wide) (subst (λ (ns : List Node). Sound i.width ns (length i.values.now)) (sym lent) s)
 
-  whole : register q.key.width q.nodes.now i.values.now ≡ register_of i
+  pub whole : register q.key.width q.nodes.now i.values.now ≡ register_of i
   whole = ap₂ (λ (w : ℕ) (ns : List Node). register w ns i.values.now) wide lent
 
   pub exact_answer : (p : Option ℕ) → p ≡ place_on q.key.width q.nodes.now q.key.bits q.len → p ≡ place_in (exact (block_of q.key.width q.key.bits q.len) (register_of i))

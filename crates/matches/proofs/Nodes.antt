@@ -1,5 +1,5 @@
 -- A node on the way of a query, as the code reads it: it is in the list, its child's location leads on, and a slot's location is its place.
-use Rattle.std.proofs.Common.{◌≡◌, ℕ, Bool, true, ◌&&◌, ◌+◌, ◌-◌, ◌/◌, ◌%◌, ◌^◌, ◌<◌, ◌≤◌, length, is_some, IfSome, Some, None, Option, sym, ap, ◌∙◌, ap₂, min, arith, MatchOption}
+use Rattle.std.proofs.Common.{◌≡◌, ℕ, Bool, true, ◌+◌, ◌-◌, ◌/◌, ◌%◌, ◌^◌, ◌<◌, ◌≤◌, length, is_some, IfSome, Some, None, Option, sym, ap, ◌∙◌, ap₂, min, arith, MatchOption}
 use Rattle.std.specs.Option.{option_map}
 use Rattle.keys.specs.Blocks.{first_bits}
 use Rattle.register.proofs.Spots.{place_below, spot_of}
@@ -14,7 +14,7 @@ use Rattle.tree.specs.Meaning.{Sound}
 use Rattle.matches.proofs.Lists.{sound_of}
 use Rattle.matches.proofs.Picks.{highest_met, lowest_met, met_below}
 use Rattle.matches.proofs.Steps.{OfBit, child_index, child_on, five_four, hit_node, longest_hit, node_in, shortest_hit, slot_below, slot_place, some_if}
-use Rattle.matches.specs.Way.{Ends, HitOn, OnPath, has, level_to, first_hit, found_of, last_hit, path_mask}
+use Rattle.matches.specs.Way.{Ends, HitOn, OnPath, first_bit, last_bit, has, level_to, first_hit, found_of, last_hit, path_mask}
 use Rattle.matches.specs.declared.cursor.Cursor.{Cursor}
 use Rattle.matches.specs.declared.query.Query.{Query}
 use Rattle.matches.specs.declared.found.Hit.{Hit}
@@ -40,10 +40,10 @@ module _ (c : Cursor) where
   pub child_none : c.depth + 5 ≤ c.query.len → None ≡ child_of → Ends c.query.key.width c.query.nodes.now c.query.key.bits c.query.len c.depth
   child_none h e = on_child None h e
 
-  pub longest_here : (b : Option ℕ) (r : Option Hit) → OfBit {w = c.query.key.width} {ns = c.query.nodes.now} (sound c.query) c.on_path b r → b ≡ highest 32 (λ k. bit (node_at c.query.nodes.now c.at).data_bitmap k && bit (path_mask c.query.key.width c.query.key.bits c.query.len c.depth) k) → r ≡ last_hit c.query.key.width c.query.nodes.now c.query.key.bits c.query.len c.depth
+  pub longest_here : (b : Option ℕ) (r : Option Hit) → OfBit {w = c.query.key.width} {ns = c.query.nodes.now} (sound c.query) c.on_path b r → b ≡ last_bit (node_at c.query.nodes.now c.at).data_bitmap c.query.key.width c.depth c.query.key.bits c.query.len → r ≡ last_hit c.query.key.width c.query.nodes.now c.query.key.bits c.query.len c.depth
   longest_here b r of e = longest_hit (sound c.query) c.on_path of e
 
-  pub shortest_here : (b : Option ℕ) (r : Option Hit) → OfBit {w = c.query.key.width} {ns = c.query.nodes.now} (sound c.query) c.on_path b r → b ≡ lowest 32 (λ k. bit (node_at c.query.nodes.now c.at).data_bitmap k && bit (path_mask c.query.key.width c.query.key.bits c.query.len c.depth) k) → r ≡ first_hit c.query.key.width c.query.nodes.now c.query.key.bits c.query.len c.depth
+  pub shortest_here : (b : Option ℕ) (r : Option Hit) → OfBit {w = c.query.key.width} {ns = c.query.nodes.now} (sound c.query) c.on_path b r → b ≡ first_bit (node_at c.query.nodes.now c.at).data_bitmap c.query.key.width c.depth c.query.key.bits c.query.len → r ≡ first_hit c.query.key.width c.query.nodes.now c.query.key.bits c.query.len c.depth
   shortest_here b r of e = shortest_hit (sound c.query) c.on_path of e
 
 -- in a node that the length goes through, the path is that of the first four of the child's five bits

@@ -1,8 +1,8 @@
 // The search along the bits of a query's key.
-ghost use Rattle.std.specs.Prelude.{◌≡◌, ℕ, suc, ◌+◌, ◌%◌, ◌<◌, ◌≤◌, length, IfSome, Some, Option, MatchOption};
+ghost use Rattle.std.specs.Prelude.{◌≡◌, ℕ, suc, ◌+◌, ◌%◌, ◌<◌, ◌≤◌, length, is_some, IfSome, Some, Option, MatchOption};
 ghost use Rattle.keys.specs.Blocks.{first_bits};
 ghost use Rattle.std.specs.Option.{option_map};
-ghost use Rattle.matches.specs.Way.{Ends, HitOn, first_hit, found_of, last_hit, longest_on, path_mask, place_on, shortest_on};
+ghost use Rattle.matches.specs.Way.{Ends, HitOn, first_bit, first_hit, found_of, last_bit, last_hit, longest_on, path_mask, place_on, shortest_on};
 ghost use Rattle.tree.specs.Levels.{node_at};
 ghost use Rattle.register.proofs.Spots.{spot_of};
 ghost use Rattle.register.specs.Register.{place_at};
@@ -20,9 +20,11 @@ use slots::mask::Rule;
 
 impl<'a> Query<'a> {
     // The root.
-    fn start(&self) -> Cursor<'a>
+    pub fn start(&self) -> Cursor<'a>
         ensures query { result.query ≡ self.now }
+        ensures at { result.at ≡ 0 }
         ensures depth { result.depth ≡ 0 }
+        ensures same { self.exit.now ≡ self.entry.now }
     {
         Cursor {
             query: *self,
@@ -122,8 +124,9 @@ impl<'a> Cursor<'a> {
 
     // The node that the key's next five bits lead to, where the length goes so far and the child is there.
     #[tactic(auto, using(crate::proofs::Nodes::child_some, crate::proofs::Nodes::child_none))]
-    fn child(&self) -> Option<Cursor<'a>>
-        ensures { MatchOption result (Ends self.now.query.key.width self.now.query.nodes.now self.now.query.key.bits self.now.query.len self.now.depth) (λ next. (next.query ≡ self.now.query) × (next.depth ≡ self.now.depth + 5)) }
+    pub fn child(&self) -> Option<Cursor<'a>>
+        ensures same { self.exit.now ≡ self.entry.now }
+        ensures child { MatchOption result (Ends self.now.query.key.width self.now.query.nodes.now self.now.query.key.bits self.now.query.len self.now.depth) (λ next. (next.query ≡ self.now.query) × (next.depth ≡ self.now.depth + 5)) }
     {
         let depth = self.depth + Node::LEVELS;
         if self.query.len < depth {
@@ -165,18 +168,40 @@ impl<'a> Cursor<'a> {
 
     // The longest block on the key's path in this node that has a value, within the length. It and
     // the shortest differ in what they call: a trait with a law for both would be longer than the two.
-    #[tactic(auto, using(crate::proofs::Nodes::highest_below, crate::proofs::Nodes::longest_here))]
     fn longest(&self) -> Option<Hit>
         ensures { result ≡ last_hit self.now.query.key.width self.now.query.nodes.now self.now.query.key.bits self.now.query.len self.now.depth }
     {
-        self.hit(highest_common(self.node().data_bitmap, self.path()))
+        self.hit(self.longest_bit())
     }
 
     // The shortest such block.
-    #[tactic(auto, using(crate::proofs::Nodes::lowest_below, crate::proofs::Nodes::shortest_here))]
     fn shortest(&self) -> Option<Hit>
         ensures { result ≡ first_hit self.now.query.key.width self.now.query.nodes.now self.now.query.key.bits self.now.query.len self.now.depth }
     {
-        self.hit(lowest_common(self.node().data_bitmap, self.path()))
+        self.hit(self.shortest_bit())
+    }
+
+    // Whether a block on the key's path in this node has a value, within the length.
+    pub fn has_hit(&self) -> bool
+        ensures same { self.exit.now ≡ self.entry.now }
+        ensures hit { result ≡ is_some (first_hit self.now.query.key.width self.now.query.nodes.now self.now.query.key.bits self.now.query.len self.now.depth) }
+    {
+        self.shortest().is_some()
+    }
+
+    // The highest data bit of these blocks.
+    fn longest_bit(&self) -> Option<u32>
+        ensures bit { result ≡ last_bit (node_at self.now.query.nodes.now self.now.at).data_bitmap self.now.query.key.width self.now.depth self.now.query.key.bits self.now.query.len }
+        ensures below { IfSome result (λ b. b < 32) }
+    {
+        highest_common(self.node().data_bitmap, self.path())
+    }
+
+    // The lowest such bit.
+    fn shortest_bit(&self) -> Option<u32>
+        ensures bit { result ≡ first_bit (node_at self.now.query.nodes.now self.now.at).data_bitmap self.now.query.key.width self.now.depth self.now.query.key.bits self.now.query.len }
+        ensures below { IfSome result (λ b. b < 32) }
+    {
+        lowest_common(self.node().data_bitmap, self.path())
     }
 }

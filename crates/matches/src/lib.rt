@@ -18,10 +18,10 @@ use nodes::error::ArchiveError;
 use prefix::Prefix;
 use query::Query;
 
-mod cursor;
+pub mod cursor;
 mod find;
 mod found;
-mod query;
+pub mod query;
 
 // Each clause `same` says what memory holds after the call, which no type says.
 

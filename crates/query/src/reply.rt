@@ -1,6 +1,9 @@
 ghost use Rattle.keys.specs.Blocks.{cut};
+ghost use Rattle.matches.specs.Asked.{value_at};
+ghost use Rattle.nodes.specs.Faults.{answer};
 ghost use Rattle.query.specs.Replies.{Asks, Replied, belongs, match_text, refusal_text};
 ghost use Rattle.query.specs.declared.reply.Refusal.TheVariants.{Fault, Unfit};
+ghost use Rattle.register.specs.Laws.{RegisterLaws};
 ghost use Rattle.std.specs.Prelude.{◌≡◌, ◌%◌, ◌^◌, ◌≤◌, Some};
 
 use crate::address::{Address, Style};
@@ -88,6 +91,14 @@ fn matched<K: Key + Drop>(style: Style, block: Pair<K>, place: u32, site: Site) 
     }
 }
 
+// The site at a place of the image.
+fn site_at(image: &Image<Site>, place: u32) -> Result<Site, ArchiveError>
+    ensures site { answer result ≡ value_at image.now.values.now place }
+    ensures register { RegisterLaws image.now.width image.now.nodes.now image.now.values.now }
+{
+    Ok(*value(image, place)?)
+}
+
 // The longest entry of the image that contains the query's block.
 pub fn answer<K: Key + Drop>(image: &Image<Site>, query: Query) -> Result<Option<Match>, Refusal>
     ensures { Replied K.Key.width image.now query result }
@@ -96,7 +107,7 @@ pub fn answer<K: Key + Drop>(image: &Image<Site>, query: Query) -> Result<Option
     let Some((block, place)) = get_lpm(image, &block)? else {
         return Ok(None);
     };
-    let site = *value(image, place)?;
+    let site = site_at(image, place)?;
     Ok(Some(matched(query.address.style, block, place, site)))
 }
 

@@ -1,12 +1,14 @@
 -- What is kept of the answers of a pass: what each adds to a sum, and its words in a digest.
 use Rattle.std.specs.Prelude.{ℕ, ◌+◌, ◌-◌, ◌*◌, ◌%◌, ◌^◌, bit_xor, cond, Option, Some, None, List, [], ◌∷◌}
 use Rattle.serve.specs.declared.tally.Answer.{Answer}
-use Rattle.serve.specs.declared.tally.Answer.TheVariants.{Verdict, Value, Entry}
+use Rattle.serve.specs.declared.tally.Answer.TheVariants.{Verdict, Value, Entry, Covered, Count}
 
 abbrev pub added : Answer → ℕ
 added (Verdict refused) = cond refused 1 0
 added (Value value) = value + 1
 added (Entry address len value) = address + len + value
+added (Covered covered) = cond covered 1 0
+added (Count count) = count
 
 -- the sum, which wraps: an absent answer adds nothing
 abbrev pub summed : ℕ → Option Answer → ℕ
@@ -19,6 +21,8 @@ words None = (2 ^ 64 - 1) ∷ []
 words (Some (Verdict refused)) = cond refused 1 0 ∷ []
 words (Some (Value value)) = value ∷ []
 words (Some (Entry address len value)) = address ∷ (len ∷ (value ∷ []))
+words (Some (Covered covered)) = cond covered 1 0 ∷ []
+words (Some (Count count)) = count ∷ []
 
 -- the state of an FNV-1a hash after a word
 abbrev pub hashed : ℕ → ℕ → ℕ

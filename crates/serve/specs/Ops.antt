@@ -1,7 +1,7 @@
 -- The names of the operations.
 use Rattle.std.specs.Prelude.{◌≡◌, ◌≢◌, ℕ, List, Result, Ok, Err, codes}
 use Rattle.serve.specs.declared.op.Op.{Op}
-use Rattle.serve.specs.declared.op.Op.TheVariants.{Acceptance, Exact, Longest, LongestValue, LongestValueChained, Shortest}
+use Rattle.serve.specs.declared.op.Op.TheVariants.{Acceptance, Exact, Longest, LongestValue, LongestValueChained, Shortest, Covered, CoveredWide, Count}
 use Rattle.serve.specs.declared.op.UnknownOp.{UnknownOp}
 
 abbrev pub name_of : Op → List ℕ
@@ -11,6 +11,9 @@ name_of Longest = codes "longest"
 name_of LongestValue = codes "longest_value"
 name_of LongestValueChained = codes "longest_value_chained"
 name_of Shortest = codes "shortest"
+name_of Covered = codes "covered"
+name_of CoveredWide = codes "covered_wide"
+name_of Count = codes "count"
 
 -- a text is read as the operation that it names, and refused where it names none
 abbrev pub Named : List ℕ → Result Op UnknownOp → Type 0

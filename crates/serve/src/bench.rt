@@ -1,5 +1,5 @@
 // An accepted set, and the operations on it.
-ghost use Rattle.std.specs.Prelude.{◌≡◌, ◌%◌, ◌^◌, bit_xor, take};
+ghost use Rattle.std.specs.Prelude.{◌≡◌, ◌*◌, ◌/◌, ◌%◌, ◌^◌, bit_xor, take};
 ghost use Rattle.std.specs.Iterator.{IsFinite};
 
 use crate::files::Lists;
@@ -7,6 +7,7 @@ use crate::op::Op;
 use crate::tally::{Answer, Tally};
 use accept::accept::accept;
 use accept::image::Image;
+use coverage::{AddressCount, address_count, is_covered_in_aggregate};
 use keys::Key;
 use matches::{get, get_lpm, get_spm, value};
 use nodes::error::ArchiveError;
@@ -37,6 +38,23 @@ fn whole<K: Key>(key: K) -> Pair<K>
         repr: key,
         len: K::bits() as u8,
     }
+}
+
+// How many keys the pass over wide blocks takes.
+const WIDE_KEYS: usize = 1 << 17;
+
+// The length of the blocks that are asked about, three quarters of the key's.
+fn narrow_len<K: Key>() -> u8
+    ensures { result ≡ K.width * 3 / 4 }
+{
+    (K::bits() * 3 / 4) as u8
+}
+
+// The length of the wide blocks, half of the key's.
+fn wide_len<K: Key>() -> u8
+    ensures { result ≡ K.width / 2 }
+{
+    (K::bits() / 2) as u8
 }
 
 // The key, with the bits turned that this number has.
@@ -89,11 +107,13 @@ impl<'a, K: Key + Drop> Bench<'a, K> {
     pub(crate) fn number(&self, op: Op) -> usize {
         match op {
             Op::Acceptance => self.image.nodes().len(),
+            Op::CoveredWide => first(self.keys, WIDE_KEYS).len(),
+            Op::Count => 1,
             _ => self.keys.len(),
         }
     }
 
-    // The tally of a pass over the first so many keys; acceptance is always whole.
+    // The tally of a pass over the first so many keys; acceptance and the count are always whole.
     pub(crate) fn pass<T: Tally>(&self, op: Op, limit: usize, start: T) -> Result<T, ArchiveError> {
         let keys = first(self.keys, limit).iter();
         let zero = self.zero();
@@ -112,6 +132,15 @@ impl<'a, K: Key + Drop> Bench<'a, K> {
                 self.longest_value(turned(*key, tally.number() & zero))
             }),
             Op::Shortest => tally_of(keys, start, |_, key| self.shortest(*key)),
+            Op::Covered => {
+                let len = narrow_len::<K>();
+                tally_of(keys, start, |_, key| self.covered(*key, len))
+            }
+            Op::CoveredWide => {
+                let len = wide_len::<K>();
+                tally_of(keys, start, |_, key| self.covered(*key, len))
+            }
+            Op::Count => Ok(start.with(Some(self.count()))),
         }
     }
 
@@ -153,6 +182,18 @@ impl<'a, K: Key + Drop> Bench<'a, K> {
         get_spm(&self.image, &whole(key))?
             .map(|(prefix, place)| self.entry_at(prefix, place))
             .transpose()
+    }
+
+    fn covered(&self, key: K, len: u8) -> Result<Option<Answer>, ArchiveError> {
+        let covered = is_covered_in_aggregate(&self.image, &Pair { repr: key, len })?;
+        Ok(Some(Answer::Covered(covered)))
+    }
+
+    fn count(&self) -> Answer {
+        Answer::Count(match address_count(&self.image) {
+            AddressCount::Number(count) => count,
+            AddressCount::Whole => u64::MAX,
+        })
     }
 
     fn value_at(&self, place: u32) -> Result<Answer, ArchiveError> {

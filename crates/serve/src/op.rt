@@ -13,6 +13,9 @@ pub enum Op {
     LongestValue,
     LongestValueChained,
     Shortest,
+    Covered,
+    CoveredWide,
+    Count,
 }
 
 impl Op {
@@ -26,6 +29,9 @@ impl Op {
             Op::LongestValue => "longest_value",
             Op::LongestValueChained => "longest_value_chained",
             Op::Shortest => "shortest",
+            Op::Covered => "covered",
+            Op::CoveredWide => "covered_wide",
+            Op::Count => "count",
         }
     }
 }
@@ -56,6 +62,9 @@ impl FromStr for Op {
             "longest_value" => Ok(Op::LongestValue),
             "longest_value_chained" => Ok(Op::LongestValueChained),
             "shortest" => Ok(Op::Shortest),
+            "covered" => Ok(Op::Covered),
+            "covered_wide" => Ok(Op::CoveredWide),
+            "count" => Ok(Op::Count),
             _ => Err(UnknownOp),
         }
     }

@@ -10,6 +10,9 @@ pub enum Answer {
     Verdict { refused: bool },
     Value(u32),
     Entry { address: u64, len: u8, value: u32 },
+    Covered(bool),
+    // How many addresses, the largest number for all.
+    Count(u64),
 }
 
 impl Answer {
@@ -27,6 +30,8 @@ impl Answer {
             } => address
                 .wrapping_add(u64::from(len))
                 .wrapping_add(u64::from(value)),
+            Answer::Covered(covered) => u64::from(covered),
+            Answer::Count(count) => count,
         }
     }
 }
@@ -110,6 +115,8 @@ impl Tally for Digest {
                 .word(address)
                 .word(u64::from(len))
                 .word(u64::from(value)),
+            Some(Answer::Covered(covered)) => self.word(u64::from(covered)),
+            Some(Answer::Count(count)) => self.word(count),
         }
     }
 

@@ -2,16 +2,18 @@
 // method that they call: a parameter for it would be longer than they are.
 ghost use Rattle.nodes.specs.Bitmaps.{bit};
 ghost use Rattle.slots.specs.Picks.{highest, lowest};
-ghost use Rattle.std.specs.Prelude.{◌≡◌, ◌&&◌, bit_and};
+ghost use Rattle.std.specs.Prelude.{◌≡◌, ◌<◌, ◌&&◌, bit_and, IfSome};
 
 pub fn highest_common(bitmap: u32, mask: u32) -> Option<u32>
-    ensures { result ≡ highest 32 (λ b. bit bitmap b && bit mask b) }
+    ensures below { IfSome result (λ b. b < 32) }
+    ensures bit { result ≡ highest 32 (λ b. bit bitmap b && bit mask b) }
 {
     highest_bit(common(bitmap, mask))
 }
 
 pub fn lowest_common(bitmap: u32, mask: u32) -> Option<u32>
-    ensures { result ≡ lowest 32 (λ b. bit bitmap b && bit mask b) }
+    ensures below { IfSome result (λ b. b < 32) }
+    ensures bit { result ≡ lowest 32 (λ b. bit bitmap b && bit mask b) }
 {
     lowest_bit(common(bitmap, mask))
 }
@@ -27,14 +29,16 @@ fn common(bitmap: u32, mask: u32) -> u32
 
 #[tactic(auto, using(crate::proofs::Both::log2_highest))]
 fn highest_bit(bits: u32) -> Option<u32>
-    ensures { result ≡ highest 32 (bit bits) }
+    ensures below { IfSome result (λ b. b < 32) }
+    ensures bit { result ≡ highest 32 (bit bits) }
 {
     bits.checked_ilog2()
 }
 
 #[tactic(auto, using(crate::proofs::Both::zero_lowest, crate::proofs::Both::trailing_lowest))]
 fn lowest_bit(bits: u32) -> Option<u32>
-    ensures { result ≡ lowest 32 (bit bits) }
+    ensures below { IfSome result (λ b. b < 32) }
+    ensures bit { result ≡ lowest 32 (bit bits) }
 {
     (bits != 0).then_some(bits.trailing_zeros())
 }

@@ -1,5 +1,5 @@
 // Where the values and the children of a node stand.
-ghost use Rattle.nodes.specs.Bitmaps.{ones_below};
+ghost use Rattle.nodes.specs.Bitmaps.{bit as is_set, ones_below};
 ghost use Rattle.slots.specs.Places.{loc_of};
 ghost use Rattle.std.specs.Prelude.{◌≡◌, ◌/◌, ◌%◌, ◌^◌, ◌==◌, count_ones};
 
@@ -31,9 +31,10 @@ fn bits_below(bitmap: u32, bit: u32) -> u32
     }
 }
 
+// Whether the bit is set.
 #[tactic(auto, using(crate::proofs::Bits::bit_end_32))]
-fn has_bit(bitmap: u32, bit: u32) -> bool
-    ensures { result ≡ (bitmap / 2 ^ bit % 2 == 1) }
+pub fn has_bit(bitmap: u32, bit: u32) -> bool
+    ensures { result ≡ is_set bitmap bit }
 {
     bit < 32 && (bitmap >> bit) % 2 == 1
 }

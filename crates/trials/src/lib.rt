@@ -34,21 +34,46 @@ mod acceptance {
 
 #[cfg(test)]
 mod sheets {
+    use coverage::AddressCount;
     use judge::judge;
+    use judge::report::Report;
     use nodes::error::ArchiveError;
     use sheet::error::ReadError;
     use sheet::head::Head;
+    use std::test::Fail;
 
     #[test]
     fn accepted(rt: HostRuntime) {
         let text =
             "         16          1          0\n          0          0          0          1\n";
-        let head = Head {
-            width: 16,
-            nodes: 1,
-            values: 0,
+        let report = Report {
+            head: Head {
+                width: 16,
+                nodes: 1,
+                values: 0,
+            },
+            addresses: AddressCount::Number(0),
         };
-        assert_eq!(rt; judge(rt.alloc(), text.as_bytes()), Ok(head));
+        assert_eq!(rt; judge(rt.alloc(), text.as_bytes()), Ok(report));
+    }
+
+    // The whole key space and its lower half.
+    #[test]
+    fn all_covered(rt: HostRuntime) -> Result<(), Fail> {
+        let text = "          8          1          2
+          3          0          0          1
+         11
+         12
+";
+        let Ok(report) = judge(rt.alloc(), text.as_bytes()) else {
+            return Err(Fail::new("not accepted"));
+        };
+        assert_eq!(rt; report.addresses, AddressCount::Whole);
+        assert_eq!(rt;
+            format!(in rt.alloc(); "{report}")?.as_str(),
+            "keys of 8 bits, 1 nodes, 2 values; all addresses covered"
+        );
+        Ok(())
     }
 
     #[test]
@@ -93,9 +118,10 @@ mod sheets {
 }
 
 #[cfg(test)]
-mod refusals {
+mod images {
     use accept::accept::accept;
     use accept::image::Image;
+    use coverage::{AddressCount, address_count, is_covered_in_aggregate};
     use matches::{get, get_lpm, get_spm, value};
     use nodes::error::ArchiveError;
     use nodes::node::Node;
@@ -103,13 +129,40 @@ mod refusals {
     use std::test::Fail;
 
     // Two nodes and six values under keys of 8 bits.
+    fn six_blocks() -> ([Node; 2], [u32; 6]) {
+        (
+            [
+                Node::from([66, 4_194_304, 0, 1]),
+                Node::from([24_610, 0, 2, 2]),
+            ],
+            [11, 12, 13, 14, 15, 16],
+        )
+    }
+
+    #[test]
+    fn covered_blocks(rt: HostRuntime) -> Result<(), Fail> {
+        let (nodes, values) = six_blocks();
+        if let Err(_) = accept::<u8, u32>(&nodes, &values) {
+            return Err(Fail::new("not accepted"));
+        }
+        let image = Image::new::<u8>(&nodes, &values);
+        let filled = Pair {
+            repr: 177u8,
+            len: 5,
+        };
+        assert_eq!(rt; is_covered_in_aggregate(&image, &filled), Ok(true));
+        let half_filled = Pair {
+            repr: 176u8,
+            len: 4,
+        };
+        assert_eq!(rt; is_covered_in_aggregate(&image, &half_filled), Ok(false));
+        assert_eq!(rt; address_count(&image), AddressCount::Number(200));
+        Ok(())
+    }
+
     #[test]
     fn refused_queries(rt: HostRuntime) -> Result<(), Fail> {
-        let nodes = [
-            Node::from([66, 4_194_304, 0, 1]),
-            Node::from([24_610, 0, 2, 2]),
-        ];
-        let values = [11u32, 12, 13, 14, 15, 16];
+        let (nodes, values) = six_blocks();
         if let Err(_) = accept::<u8, u32>(&nodes, &values) {
             return Err(Fail::new("not accepted"));
         }
@@ -121,6 +174,10 @@ mod refusals {
         assert_eq!(rt; get(&image, &long), Err(ArchiveError::LengthExceedsKey));
         assert_eq!(rt; get_lpm(&image, &long), Err(ArchiveError::LengthExceedsKey));
         assert_eq!(rt; get_spm(&image, &long), Err(ArchiveError::LengthExceedsKey));
+        assert_eq!(rt;
+            is_covered_in_aggregate(&image, &long),
+            Err(ArchiveError::LengthExceedsKey)
+        );
         let wide = Pair {
             repr: 178u32,
             len: 40,
@@ -128,6 +185,10 @@ mod refusals {
         assert_eq!(rt; get(&image, &wide), Err(ArchiveError::KeyWidthDiffers));
         assert_eq!(rt; get_lpm(&image, &wide), Err(ArchiveError::KeyWidthDiffers));
         assert_eq!(rt; get_spm(&image, &wide), Err(ArchiveError::KeyWidthDiffers));
+        assert_eq!(rt;
+            is_covered_in_aggregate(&image, &wide),
+            Err(ArchiveError::KeyWidthDiffers)
+        );
         assert_eq!(rt; value(&image, 6), Err(ArchiveError::NoSuchPlace));
         Ok(())
     }

@@ -1,4 +1,5 @@
-// Reads a sheet from standard input and says whether its image is accepted, or which fault it has.
+// Reads a sheet from standard input and says whether its image is accepted and how many addresses it
+// covers, or which fault it has.
 #![tactic(auto)]
 
 use judge::judge;
@@ -10,10 +11,7 @@ fn main(rt: HostRuntime) -> io::Result<()> {
     let mut text = Vec::new(rt.alloc());
     rt.stdin().read_to_end(&mut text)?;
     match judge(rt.alloc(), text.as_slice()) {
-        Ok(head) => println!(rt;
-            "accepted: keys of {} bits, {} nodes, {} values",
-            head.width, head.nodes, head.values
-        ),
+        Ok(report) => println!(rt; "accepted: {report}"),
         Err(ReadError::Fault(e)) => println!(rt; "refused with fault {}, {e}", e.number()),
         Err(ReadError::OutOfMemory) => println!(rt; "not judged: out of memory"),
     }

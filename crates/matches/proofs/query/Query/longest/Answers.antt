@@ -10,10 +10,10 @@ loop-next-init c = (c.start-cursor.ensures.query, ap (λ d. last_below c.start-c
 
 pub found-requires : goal.found-requires
 found-requires c =
-    let all = longest_whole c.args.self.now c.loop-next.cursor c.loop-next.invariant.0 c.longest.result c.loop-next.best c.or-best.result c.or-best.ensures c.longest.ensures c.loop-next.invariant.1 c.in-None.ensures in
+    let all = longest_whole c.args.self.now c.loop-next.cursor c.loop-next.invariant.0 c.longest.result c.loop-next.best c.or-best.result c.or-best.ensures c.longest.ensures c.loop-next.invariant.1 c.in-None.ensures.child in
     (longest_hit_on c.args.self.now c.in_ok-best-in-None.field-0 (sym c.in_ok-best-in-None.was ∙ all)).0
 
 pub returns-in-None : goal.returns-in-None
 returns-in-None c =
-    let all = longest_whole c.args.self.now c.loop-next.cursor c.loop-next.invariant.0 c.longest.result c.loop-next.best c.or-best.result c.or-best.ensures c.longest.ensures c.loop-next.invariant.1 c.in-None.ensures in
+    let all = longest_whole c.args.self.now c.loop-next.cursor c.loop-next.invariant.0 c.longest.result c.loop-next.best c.or-best.result c.or-best.ensures c.longest.ensures c.loop-next.invariant.1 c.in-None.ensures.child in
     c.found.ensures ∙ (longest_hit_on c.args.self.now c.in_ok-best-in-None.field-0 (sym c.in_ok-best-in-None.was ∙ all)).1

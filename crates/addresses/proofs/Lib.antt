@@ -1,0 +1,11 @@
+pub mod Counts
+pub mod Matched
+pub mod Sizes
+pub mod Covered
+pub mod Laws
+pub mod Sums
+pub mod Standing
+pub mod Levels
+pub mod Halves
+pub mod Slots
+pub mod Nodes

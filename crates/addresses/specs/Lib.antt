@@ -1,0 +1,5 @@
+pub mod Addresses
+pub mod Laws
+pub mod Sizes
+pub mod Sums
+pub mod Standing

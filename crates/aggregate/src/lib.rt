@@ -1,0 +1,7 @@
+// What a node's set slots cover: the slots under a set slot, and the slots whose whole range is covered.
+#![tactic(auto)]
+
+pub mod coverage;
+mod fold;
+pub mod ones;
+mod push;
