@@ -5,7 +5,6 @@ one seed.
 line `image WIDTH VALUES NODE..` and below it the queries `covered KEY/LEN`, in the form of
 docs/COMPARISON.md without the answers."""
 import random
-import sys
 
 import lists
 import matches
@@ -259,10 +258,4 @@ def groups(seed, per_width=480):
 
 
 if __name__ == "__main__":
-    for name, some in groups(sys.argv[1] if len(sys.argv) > 1 else SEED):
-        print("#", name)
-        for image, asked, refused in some:
-            print(image.line())
-            for key, length in asked:
-                print("covered %d/%d" % (key, length))
-            print("\n".join(refused))
+    matches.show(groups, SEED, "covered")

@@ -167,11 +167,16 @@ def groups(seed, per_width=480):
         yield name, ((image, queries(r, image), refusals(r, image)) for image in some)
 
 
-if __name__ == "__main__":
-    for name, some in groups(sys.argv[1] if len(sys.argv) > 1 else SEED):
+def show(groups, seed, word):
+    """Prints the groups of the seed, or of the one that stands in the arguments, with this word before each pair."""
+    for name, some in groups(sys.argv[1] if len(sys.argv) > 1 else seed):
         print("#", name)
         for image, asked, refused in some:
             print(image.line())
             for key, length in asked:
-                print("ask %d/%d" % (key, length))
+                print("%s %d/%d" % (word, key, length))
             print("\n".join(refused))
+
+
+if __name__ == "__main__":
+    show(groups, SEED, "ask")
