@@ -11,7 +11,7 @@ WIDTHS = [8, 16, 32, 64]
 ALL = 2**32 - 1
 MAX_NODES = 1_048_576
 MAX_VALUES = 33_554_432
-# the data bitmaps around the last slot of each level, and around bit 31
+# the data bitmaps around the last slot of each tier, and around bit 31
 SLOTS = sorted({d for m in range(5) for b in [2**(2**(m + 1) - 1)] for d in (b - 1, b, b + 1)})
 
 
@@ -38,13 +38,13 @@ def image(w, prefixes):
     for address, length in prefixes:
         bits = [address >> (w - 1 - i) & 1 for i in range(length)]
         path = ()
-        for depth in range(length // 5):
-            step = int("".join(map(str, bits[5 * depth:5 * depth + 5])), 2)
-            levels[depth][path][1] |= 1 << step
+        for k in range(length // 5):
+            step = int("".join(map(str, bits[5 * k:5 * k + 5])), 2)
+            levels[k][path][1] |= 1 << step
             path += (step,)
-            if len(levels) == depth + 1:
+            if len(levels) == k + 1:
                 levels.append({})
-            levels[depth + 1].setdefault(path, [0, 0])
+            levels[k + 1].setdefault(path, [0, 0])
         rest = bits[len(bits) - length % 5:] if length % 5 else []
         slot = 2**len(rest) - 1 + int("0" + "".join(map(str, rest)), 2)
         levels[length // 5][path][0] |= 1 << slot

@@ -71,8 +71,8 @@ def trie(prefixes):
             child = first_bits(address, d + 5)
             nodes[d, first_bits(address, d)][1].add(child)
             nodes.setdefault((d + 5, child), ({}, set()))
-        level = length - depth
-        bit = 2**level - 1 + first_bits(address, length) % 2**level
+        tier = length - depth
+        bit = 2**tier - 1 + first_bits(address, length) % 2**tier
         nodes[depth, first_bits(address, depth)][0][bit] = address, length
     return nodes
 

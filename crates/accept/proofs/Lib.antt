@@ -1,1 +1,2 @@
 pub mod Cursors
+pub mod Images

@@ -1,30 +1,33 @@
 ghost use Rattle.std.specs.Prelude.{◌≡◌, ◌≤◌, length};
-ghost use Rattle.nodes.specs.Faults.{given};
-ghost use Rattle.tree.specs.Verdict.{verdict, Accepted};
+ghost use Rattle.tree.specs.Levels.{data_ones};
+ghost use Rattle.tree.specs.Verdict.{Accepted};
 
 use keys::Key;
 use nodes::node::Node;
 
 // An accepted image: a node list and a value list of any one kind, both lent, and the width of its
-// keys. There is no other way to have one than from two lists with a good verdict. The nodes name one
-// another by their numbers in the list, which is the image's format, and the width is a number, as
-// every definition takes it.
+// keys. Its nodes are accepted for as many values as their data bitmaps call for, and the list has
+// as many. There is no other way to have one than from two lists with a good verdict.
 #[derive(Drop)]
 pub struct Image<'a, T> {
     nodes: &'a [Node],
     values: &'a [T],
     width: u32,
-    ghost accepted: { Accepted width nodes.now (length values.now) },
+    ghost accepted: { Accepted width nodes.now (data_ones nodes.now) },
+    ghost filled: { data_ones nodes.now ≡ length values.now },
     ghost narrow: { width ≤ 64 },
 }
 
 impl<'a, T> Image<'a, T> {
+    ghost use Rattle.accept.specs.Images.{width_of, nodes_of, values_of};
+
     // The image of two lists that were accepted under keys of this kind.
     pub fn new<K: Key>(nodes: &'a [Node], values: &'a [T]) -> Image<'a, T>
-        requires { verdict K.Key.width nodes.now (length values.now) ≡ given tt }
-        ensures width { result.width ≡ K.Key.width }
-        ensures nodes { result.nodes.now ≡ nodes.now }
-        ensures values { result.values.now ≡ values.now }
+        requires { Accepted K.Key.width nodes.now (length values.now) }
+        ensures width { width_of result ≡ K.Key.width }
+        ensures nodes { nodes_of result ≡ nodes.now }
+        ensures values { values_of result ≡ values.now }
+        ensures same { (nodes.exit.now ≡ nodes.entry.now) × (values.exit.now ≡ values.entry.now) }
     {
         Image {
             nodes,
@@ -35,21 +38,24 @@ impl<'a, T> Image<'a, T> {
 
     // The width of its keys in bits.
     pub fn width(&self) -> u32
-        ensures { result ≡ self.now.width }
+        ensures width { result ≡ width_of self.now }
+        ensures same { self.exit.now ≡ self.entry.now }
     {
         self.width
     }
 
     // The lent node list.
     pub fn nodes(&self) -> &'a [Node]
-        ensures { result.now ≡ self.now.nodes.now }
+        ensures nodes { result.now ≡ nodes_of self.now }
+        ensures same { self.exit.now ≡ self.entry.now }
     {
         self.nodes
     }
 
     // The lent value list.
     pub fn values(&self) -> &'a [T]
-        ensures { result.now ≡ self.now.values.now }
+        ensures values { result.now ≡ values_of self.now }
+        ensures same { self.exit.now ≡ self.entry.now }
     {
         self.values
     }

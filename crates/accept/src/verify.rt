@@ -1,9 +1,9 @@
 ghost use Rattle.std.specs.Prelude.{◌≡◌, ℕ, ◌+◌, ◌-◌, ◌*◌, ◌^◌, ◌<◌, ◌≤◌, min, ◌&&◌, [], ◌++◌, length, is_ok, if◌then◌else◌, nat_eq};
 ghost use Rattle.tree.specs.Levels.{data_ones, child_ones};
-ghost use Rattle.tree.specs.Meaning.{Right};
-ghost use Rattle.tree.specs.Verdict.{node_faults, faults_before, limit_faults, total_faults, first, verdict};
+ghost use Rattle.tree.specs.Meaning.{AcceptanceLaws};
+ghost use Rattle.tree.specs.Verdict.{node_faults, faults_before, limit_faults, total_faults, first_fault, verdict};
 ghost use Rattle.nodes.specs.Bitmaps.{ones32};
-ghost use Rattle.nodes.specs.Faults.{answer};
+ghost use Rattle.nodes.specs.Faults.{number, outcome};
 
 use nodes::error::ArchiveError;
 use nodes::node::Node;
@@ -12,8 +12,8 @@ const MAX_NODES: usize = 1_048_576;
 
 const MAX_VALUES: usize = 33_554_432;
 
-// The smallest data bitmap with a bit past level m, for m from 0 to 4: a constant for each level.
-const DENIED_DEPTH: [u32; 5] = [2, 8, 128, 32768, 2147483648];
+// The smallest data bitmap with a slot behind tier m, for m from 0 to 4.
+const DENIED_BITMAPS: [u32; 5] = [2, 8, 128, 32768, 2147483648];
 
 // What the nodes before the present one call for, and how deep it stands.
 #[derive(Clone, Copy)]
@@ -21,7 +21,7 @@ struct Cursors {
     data: u32,
     child: u32,
     depth: u32,
-    next_depth: u32,
+    next_level: u32,
 }
 
 impl Cursors {
@@ -30,13 +30,13 @@ impl Cursors {
         requires { self.depth ≤ 2 ^ 30 }
         ensures values { result.«data» ≡ self.«data» }
         ensures children { result.child ≡ self.child }
-        ensures level { result.depth ≡ (if nat_eq i self.next_depth then self.depth + 5 else self.depth) }
-        ensures next_level { result.next_depth ≡ (if nat_eq i self.next_depth then node.now.children_idx else self.next_depth) }
+        ensures depth { result.depth ≡ (if nat_eq i self.next_level then self.depth + 5 else self.depth) }
+        ensures next_level { result.next_level ≡ (if nat_eq i self.next_level then node.now.children_idx else self.next_level) }
     {
-        if i == self.next_depth {
+        if i == self.next_level {
             Cursors {
-                depth: self.depth + Node::LEVELS,
-                next_depth: node.children_idx,
+                depth: self.depth + Node::STRIDE,
+                next_level: node.children_idx,
                 ..self
             }
         } else {
@@ -50,8 +50,8 @@ impl Cursors {
         requires few_children { self.child ≤ 2 ^ 30 }
         ensures values { result.«data» ≡ self.«data» + ones32 node.now.data_bitmap }
         ensures children { result.child ≡ self.child + ones32 node.now.child_bitmap }
-        ensures same_level { result.depth ≡ self.depth }
-        ensures same_next_level { result.next_depth ≡ self.next_depth }
+        ensures same_depth { result.depth ≡ self.depth }
+        ensures same_next_level { result.next_level ≡ self.next_level }
     {
         Cursors {
             data: self.data + ones(node.data_bitmap),
@@ -73,7 +73,7 @@ fn ones(bitmap: u32) -> u32
 fn denied_from(room: u32) -> u32
     ensures { result ≡ 2 ^ (2 ^ (min 4 room + 1) - 1) }
 {
-    DENIED_DEPTH[room.min(Node::LEVELS - 1) as usize]
+    DENIED_BITMAPS[room.min(Node::STRIDE - 1) as usize]
 }
 
 fn is_empty(node: &Node) -> bool
@@ -84,7 +84,7 @@ fn is_empty(node: &Node) -> bool
 
 // The tests of node i, in their order.
 fn test_node(width: u32, i: u32, node: &Node, at: Cursors) -> Result<(), ArchiveError>
-    ensures { answer result ≡ first (node_faults width i at.depth at.«data» at.child node.now) }
+    ensures { outcome number result ≡ first_fault (node_faults width i at.depth at.«data» at.child node.now) }
 {
     let empty = is_empty(node);
     if i > 0 && empty {
@@ -108,7 +108,7 @@ fn test_node(width: u32, i: u32, node: &Node, at: Cursors) -> Result<(), Archive
 
 // What the bitmaps called for in all, against the two lists.
 fn test_totals(at: Cursors, nodes: u32, values: u32) -> Result<(), ArchiveError>
-    ensures { answer result ≡ first (total_faults at.child nodes at.«data» values) }
+    ensures { outcome number result ≡ first_fault (total_faults at.child nodes at.«data» values) }
 {
     if at.child < nodes {
         return Err(ArchiveError::NodeListTooShort);
@@ -126,7 +126,7 @@ fn test_totals(at: Cursors, nodes: u32, values: u32) -> Result<(), ArchiveError>
 }
 
 fn test_limits(nodes: usize, values: usize) -> Result<(), ArchiveError>
-    ensures { answer result ≡ first (limit_faults nodes values) }
+    ensures { outcome number result ≡ first_fault (limit_faults nodes values) }
 {
     if nodes > MAX_NODES {
         return Err(ArchiveError::NodeIndexOverflow);
@@ -144,16 +144,15 @@ fn test_limits(nodes: usize, values: usize) -> Result<(), ArchiveError>
 #[tactic(auto, using(crate::proofs::Cursors::behind_none, crate::proofs::Cursors::data_ones_le, crate::proofs::Cursors::child_ones_le, crate::proofs::Cursors::behind_more, crate::proofs::Cursors::behind_all))]
 fn verify_nodes(width: u32, nodes: &[Node], values: u32) -> Result<(), ArchiveError>
     requires { length nodes.now ≤ 1048576 }
-    ensures { answer result ≡ first (faults_before width nodes.now (length nodes.now) ++ total_faults (1 + child_ones nodes.now) (length nodes.now) (data_ones nodes.now) values) }
+    ensures { outcome number result ≡ first_fault (faults_before width nodes.now (length nodes.now) ++ total_faults (1 + child_ones nodes.now) (length nodes.now) (data_ones nodes.now) values) }
 {
     let mut at = Cursors {
         data: 0,
         child: 1,
         depth: 0,
-        next_depth: 1,
+        next_level: 1,
     };
     for (i, node) in nodes.iter().enumerate() {
-        // no bit is lost, so there is no error to answer as `try_from` would
         let i = i as u32;
         let here = at.enter(i, node);
         test_node(width, i, node, here)?;
@@ -165,8 +164,8 @@ fn verify_nodes(width: u32, nodes: &[Node], values: u32) -> Result<(), ArchiveEr
 // All tests, in their order.
 #[tactic(auto, using(tree::proofs::Meaning::right))]
 pub(crate) fn verify(width: u32, nodes: &[Node], values: usize) -> Result<(), ArchiveError>
-    ensures verdict { answer result ≡ verdict width nodes.now values }
-    ensures meaning { Right width nodes.now values (is_ok result) }
+    ensures verdict { outcome number result ≡ verdict width nodes.now values }
+    ensures meaning { AcceptanceLaws width nodes.now values (is_ok result) }
 {
     test_limits(nodes.len(), values)?;
     verify_nodes(width, nodes, values as u32)

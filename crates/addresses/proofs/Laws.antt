@@ -8,7 +8,7 @@ use Rattle.register.proofs.Hits.{later}
 use Rattle.addresses.specs.Addresses.{matched}
 use Rattle.addresses.specs.Laws.{HasAddress, AddressLaws}
 use Rattle.addresses.proofs.Counts.{each_at, each_from, count_le, count_all, all_count}
-use Rattle.addresses.proofs.Matched.{matched_lies, lies_matched}
+use Rattle.addresses.proofs.Matched.{has_longest, lies_matched, matched_lies}
 use Rattle.addresses.proofs.Sizes.{cut_whole, range_bits}
 
 module _ (w : ℕ) (b : Block) (proper : Proper w b) (x : ℕ) where
@@ -37,7 +37,8 @@ module _ (w : ℕ) (b : Block) (proper : Proper w b) (x : ℕ) where
 pub address_laws : {A : Type 0} (w : ℕ) (es : List (Entry A)) → AddressLaws w es
 address_laws w es = record {
   matched_lies = λ a h. matched_lies w a es h;
-  lies_matched = λ a l. lies_matched w a es l.0 l.1 l.2;
+  lies_matched = λ a l. lies_matched w a es l;
+  has_longest = λ a. has_longest w a es;
   covered_each = λ b p h a i. (
       let r = address_in w b p a i in
       each_at (matched w es) b.address (2 ^ (w - b.len)) a h r.0 r.1

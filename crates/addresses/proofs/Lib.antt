@@ -5,7 +5,7 @@ pub mod Covered
 pub mod Laws
 pub mod Sums
 pub mod Standing
-pub mod Levels
+pub mod Tiers
 pub mod Halves
 pub mod Slots
 pub mod Nodes

@@ -10,17 +10,17 @@ use Rattle.aggregate.specs.Halves.{under_set}
 use Rattle.addresses.proofs.Slots.{number, number_low, number_high, number_below, under_slot, all_under, under_halves, all_halves}
 use Rattle.addresses.proofs.Sums.{sum_same, sum_both, sum_pairs, sum_parts}
 use Rattle.addresses.specs.Sizes.{size}
-use Rattle.addresses.specs.Standing.{Standing, level_of}
+use Rattle.addresses.specs.Standing.{Standing, tier_of}
 use Rattle.addresses.specs.Sums.{sum_below}
 
-pub level_number : (l p : ℕ) → l ≤ 4 → p < 2 ^ l → level_of (number l p) ≡ l
-unfolding level_of
-level_number zero p h s = rw (lt-ltb (2 ^ 0 - 1 + p) 1 (omega arith)) refl
-level_number (suc zero) p h s = rw (le-ltb (2 ^ 1 - 1 + p) 1 (omega arith), lt-ltb (2 ^ 1 - 1 + p) 3 (omega arith)) refl
-level_number (suc (suc zero)) p h s = rw (le-ltb (2 ^ 2 - 1 + p) 1 (omega arith), le-ltb (2 ^ 2 - 1 + p) 3 (omega arith), lt-ltb (2 ^ 2 - 1 + p) 7 (omega arith)) refl
-level_number (suc (suc (suc zero))) p h s = rw (le-ltb (2 ^ 3 - 1 + p) 1 (omega arith), le-ltb (2 ^ 3 - 1 + p) 3 (omega arith), le-ltb (2 ^ 3 - 1 + p) 7 (omega arith), lt-ltb (2 ^ 3 - 1 + p) 15 (omega arith)) refl
-level_number (suc (suc (suc (suc zero)))) p h s = rw (le-ltb (2 ^ 4 - 1 + p) 1 (omega arith), le-ltb (2 ^ 4 - 1 + p) 3 (omega arith), le-ltb (2 ^ 4 - 1 + p) 7 (omega arith), le-ltb (2 ^ 4 - 1 + p) 15 (omega arith)) refl
-level_number (suc (suc (suc (suc (suc l))))) p h s = let z : ⊥ = omega arith in absurd z
+pub tier_number : (l p : ℕ) → l ≤ 4 → p < 2 ^ l → tier_of (number l p) ≡ l
+unfolding tier_of
+tier_number zero p h s = rw (lt-ltb (2 ^ 0 - 1 + p) 1 (omega arith)) refl
+tier_number (suc zero) p h s = rw (le-ltb (2 ^ 1 - 1 + p) 1 (omega arith), lt-ltb (2 ^ 1 - 1 + p) 3 (omega arith)) refl
+tier_number (suc (suc zero)) p h s = rw (le-ltb (2 ^ 2 - 1 + p) 1 (omega arith), le-ltb (2 ^ 2 - 1 + p) 3 (omega arith), lt-ltb (2 ^ 2 - 1 + p) 7 (omega arith)) refl
+tier_number (suc (suc (suc zero))) p h s = rw (le-ltb (2 ^ 3 - 1 + p) 1 (omega arith), le-ltb (2 ^ 3 - 1 + p) 3 (omega arith), le-ltb (2 ^ 3 - 1 + p) 7 (omega arith), lt-ltb (2 ^ 3 - 1 + p) 15 (omega arith)) refl
+tier_number (suc (suc (suc (suc zero)))) p h s = rw (le-ltb (2 ^ 4 - 1 + p) 1 (omega arith), le-ltb (2 ^ 4 - 1 + p) 3 (omega arith), le-ltb (2 ^ 4 - 1 + p) 7 (omega arith), le-ltb (2 ^ 4 - 1 + p) 15 (omega arith)) refl
+tier_number (suc (suc (suc (suc (suc l))))) p h s = let z : ⊥ = omega arith in absurd z
 
 pub halved : (l p : ℕ) → p < 2 ^ l → (2 * p < 2 ^ suc l) × (2 * p + 1 < 2 ^ suc l)
 halved l p h = (omega (arith, pow-suc 2 l), omega (arith, pow-suc 2 l))
@@ -53,7 +53,7 @@ module _ {ns : List Node} {at rest : ℕ} (st : Standing ns at rest) where
 
   -- the addresses of a set slot that is under no other
   abbrev pub here : ℕ → ℕ
-  here b = cond (under_set slots b) 0 (cond (bit slots b) (2 ^ (rest - level_of b)) 0)
+  here b = cond (under_set slots b) 0 (cond (bit slots b) (2 ^ (rest - tier_of b)) 0)
 
   -- those under a slot that is under no set one
   abbrev pub free_under : ℕ → ℕ → ℕ
@@ -70,29 +70,29 @@ module _ {ns : List Node} {at rest : ℕ} (st : Standing ns at rest) where
       let y : ℕ = under_slot st (suc l) (2 * p + 1) in
       ap (λ (n : ℕ). cond u 0 n) (under_halves st l p h s)
       ∙ (turn u t (2 ^ (rest - l)) x y
-      ∙ (ap (λ (k : ℕ). cond u 0 (cond t (2 ^ (rest - k)) 0) + (cond (t || u) 0 x + cond (t || u) 0 y)) (sym (level_number l p h s))
+      ∙ (ap (λ (k : ℕ). cond u 0 (cond t (2 ^ (rest - k)) 0) + (cond (t || u) 0 x + cond (t || u) 0 y)) (sym (tier_number l p h s))
       ∙ ap₂ (λ (v z : Bool). here (number l p) + (cond v 0 x + cond z 0 y)) (sym low) (sym high)))
 
-  level_turn : (l : ℕ) → l ≤ 4 → sum_below (2 ^ l) (free_under l) ≡ sum_below (2 ^ l) (λ p. here (number l p)) + sum_below (2 ^ suc l) (free_under (suc l))
-  level_turn l h =
+  tier_turn : (l : ℕ) → l ≤ 4 → sum_below (2 ^ l) (free_under l) ≡ sum_below (2 ^ l) (λ p. here (number l p)) + sum_below (2 ^ suc l) (free_under (suc l))
+  tier_turn l h =
       let e : 2 * 2 ^ l ≡ 2 ^ suc l = omega (arith, pow-suc 2 l) in
       sum_same (2 ^ l) (free_under l) (λ p. here (number l p) + (free_under (suc l) (2 * p) + free_under (suc l) (2 * p + 1))) (λ p s. slot_turn l p h s)
       ∙ (sum_both (2 ^ l) (λ p. here (number l p)) (λ p. free_under (suc l) (2 * p) + free_under (suc l) (2 * p + 1))
       ∙ ap (λ (x : ℕ). sum_below (2 ^ l) (λ p. here (number l p)) + x) (sym (sum_pairs (2 ^ l) (free_under (suc l))) ∙ ap (λ (n : ℕ). sum_below n (free_under (suc l))) e))
 
-  levels : (l : ℕ) → l ≤ 5 → free_under 0 0 ≡ sum_below (2 ^ l - 1) here + sum_below (2 ^ l) (free_under l)
-  levels zero h = omega arith
-  levels (suc l) h =
+  tiers : (l : ℕ) → l ≤ 5 → free_under 0 0 ≡ sum_below (2 ^ l - 1) here + sum_below (2 ^ l) (free_under l)
+  tiers zero h = omega arith
+  tiers (suc l) h =
       let e : (2 ^ l - 1) + 2 ^ l ≡ 2 ^ suc l - 1 = omega (arith, pow-suc 2 l, pow_pos l) in
       let parts : sum_below (2 ^ suc l - 1) here ≡ sum_below (2 ^ l - 1) here + sum_below (2 ^ l) (λ p. here (number l p)) =
       ap (λ (n : ℕ). sum_below n here) (sym e) ∙ sum_parts (2 ^ l - 1) (2 ^ l) here
       in
-      omega (arith, levels l (omega arith), level_turn l (omega arith), parts)
+      omega (arith, tiers l (omega arith), tier_turn l (omega arith), parts)
 
-  pub root_free : size rest ns (Some (record { node = at; level = 0; bits = 0 })) ≡ free_under 0 0
+  pub root_free : size rest ns (Some (record { node = at; tier = 0; path = 0 })) ≡ free_under 0 0
   root_free =
       let e : rest - 0 ≡ rest = omega arith in
       rw (under_top slots, le-leb 0 rest (omega arith), e) refl
 
-  pub node_total : size rest ns (Some (record { node = at; level = 0; bits = 0 })) ≡ sum_below 31 here + sum_below 32 (free_under 5)
-  node_total = root_free ∙ levels 5 (omega arith)
+  pub node_total : size rest ns (Some (record { node = at; tier = 0; path = 0 })) ≡ sum_below 31 here + sum_below 32 (free_under 5)
+  node_total = root_free ∙ tiers 5 (omega arith)

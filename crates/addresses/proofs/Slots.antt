@@ -1,10 +1,10 @@
--- A node's slots level by level, the child slots as the sixth: how many addresses under each, and which are covered, from a slot to its two halves.
+-- A node's slots tier by tier, the child slots as the sixth: how many addresses under each, and which are covered, from a slot to its two halves.
 use Rattle.std.proofs.Common.{◌≡◌, ℕ, suc, ◌+◌, ◌-◌, ◌*◌, ◌^◌, ◌<◌, ◌≤◌, Bool, true, false, cond, ◌&&◌, ◌||◌, eqb, nat_lt, nat_le, List, Some, Option, sym, refl, ap, ◌∙◌, inl, inr, arith, ap₂, pow-suc, pow_pos, pow_mono}
 use Rattle.std.proofs.lemmas.Bool.{cases_lt, cases_eq, cases_Bool, lt-ltb, le-ltb, le-leb, lt-leb, cond-true, eq-eqb, ne_eqb}
 use Rattle.nodes.specs.Bitmaps.{bit}
 use Rattle.nodes.specs.declared.node.Node.{Node}
 use Rattle.tree.specs.Levels.{node_at}
-use Rattle.register.specs.Register.{Spot, child_at, next, top}
+use Rattle.register.specs.Register.{Slot, child_node, next_slot, first_slot}
 use Rattle.register.proofs.Under.{true_T}
 use Rattle.addresses.proofs.Sizes.{size_le}
 use Rattle.addresses.proofs.Standing.{slot_fits}
@@ -27,9 +27,9 @@ number_below l p h s =
     let m : 2 ^ suc l ≤ 2 ^ 5 = pow_mono g in
     omega (arith, m, pow-suc 2 l, pow_pos l)
 
--- slots of one number are of one level
-one_level : (l m p q : ℕ) → p < 2 ^ l → q < 2 ^ m → number l p ≡ number m q → l ≤ m
-one_level l m p q h k e =
+-- slots of one number are of one tier
+one_tier : (l m p q : ℕ) → p < 2 ^ l → q < 2 ^ m → number l p ≡ number m q → l ≤ m
+one_tier l m p q h k e =
     elim (cases_lt m l) [
       | inl lt ↦ (let g : 2 ^ suc m ≤ 2 ^ l = pow_mono lt in absurd (omega (arith, g, pow-suc 2 m, pow_pos m)))
       | inr ge ↦ ge
@@ -55,12 +55,12 @@ module _ {ns : List Node} {at rest : ℕ} (st : Standing ns at rest) where
   abbrev pub node : Node
   node = node_at ns at
 
-  -- the slot of level l with the bits p, and as the sixth level the child slots
-  abbrev pub slot : ℕ → ℕ → Option Spot
-  slot l p = cond (nat_lt l 5) (Some (record { node = at; level = l; bits = p })) (top (child_at ns at p))
+  -- the slot of tier l with the bits p, and as the sixth tier the child slots
+  abbrev pub slot : ℕ → ℕ → Option Slot
+  slot l p = cond (nat_lt l 5) (Some (record { node = at; tier = l; path = p })) (first_slot (child_node ns at p))
 
-  next_slot : (l p b : ℕ) → l ≤ 4 → next ns b (record { node = at; level = l; bits = p }) ≡ slot (suc l) (2 * p + b)
-  next_slot l p b h =
+  next_is : (l p b : ℕ) → l ≤ 4 → next_slot ns b (record { node = at; tier = l; path = p }) ≡ slot (suc l) (2 * p + b)
+  next_is l p b h =
       elim (cases_lt l 4) [
         | inl lt ↦ rw (lt-ltb l 4 lt, lt-ltb (suc l) 5 (omega arith)) (let e : l + 1 ≡ suc l = omega arith in rw e refl)
         | inr ge ↦ rw (le-ltb l 4 ge, le-ltb (suc l) 5 (omega arith)) refl
@@ -79,15 +79,15 @@ module _ {ns : List Node} {at rest : ℕ} (st : Standing ns at rest) where
       elim (cases_Bool (bit node.data_bitmap (number l p))) [
         | inl t ↦ absurd (
             let f = slot_fits st (number l p) (true_T _ t) in
-            omega (arith, one_level l f.0 p f.1 h f.2.1 f.2.2, f.3)
+            omega (arith, one_tier l f.0 p f.1 h f.2.1 f.2.2, f.3)
             )
         | inr z ↦ z
       ]
 
-  pub slot_at : (l p : ℕ) → l ≤ 4 → slot l p ≡ Some (record { node = at; level = l; bits = p })
-  slot_at l p h = cond-true (nat_lt l 5) (Some (record { node = at; level = l; bits = p })) (top (child_at ns at p)) (lt-ltb l 5 (omega arith))
+  pub slot_at : (l p : ℕ) → l ≤ 4 → slot l p ≡ Some (record { node = at; tier = l; path = p })
+  slot_at l p h = cond-true (nat_lt l 5) (Some (record { node = at; tier = l; path = p })) (first_slot (child_node ns at p)) (lt-ltb l 5 (omega arith))
 
-  set_slot : (l p : ℕ) → set_at ns (record { node = at; level = l; bits = p }) ≡ bit node.data_bitmap (number l p)
+  set_slot : (l p : ℕ) → set_at ns (record { node = at; tier = l; path = p }) ≡ bit node.data_bitmap (number l p)
   set_slot l p = refl
 
   module _ (l p : ℕ) (h : l ≤ 4) (s : p < 2 ^ l) where
@@ -98,15 +98,15 @@ module _ {ns : List Node} {at rest : ℕ} (st : Standing ns at rest) where
     within lt =
         let e : rest - l ≡ suc (rest - suc l) = omega arith in
         let z : 2 * p + 0 ≡ 2 * p = omega arith in
-        ap (λ (o : Option Spot). size (rest - l) ns o) (slot_at l p h)
-        ∙ (ap (λ (k : ℕ). size k ns (Some (record { node = at; level = l; bits = p }))) e
-        ∙ (ap₂ (λ (x y : Option Spot). cond set (2 ^ suc (rest - suc l)) (size (rest - suc l) ns x + size (rest - suc l) ns y)) (next_slot l p 0 h ∙ ap (slot (suc l)) z) (next_slot l p 1 h)
+        ap (λ (o : Option Slot). size (rest - l) ns o) (slot_at l p h)
+        ∙ (ap (λ (k : ℕ). size k ns (Some (record { node = at; tier = l; path = p }))) e
+        ∙ (ap₂ (λ (x y : Option Slot). cond set (2 ^ suc (rest - suc l)) (size (rest - suc l) ns x + size (rest - suc l) ns y)) (next_is l p 0 h ∙ ap (slot (suc l)) z) (next_is l p 1 h)
         ∙ ap (λ (k : ℕ). cond set (2 ^ k) (size (rest - suc l) ns (slot (suc l) (2 * p)) + size (rest - suc l) ns (slot (suc l) (2 * p + 1)))) (sym e)))
 
     at_end : l ≡ rest → size (rest - l) ns (slot l p) ≡ cond set 1 0
     at_end q =
         let e : rest - l ≡ 0 = omega arith in
-        ap (λ (o : Option Spot). size (rest - l) ns o) (slot_at l p h) ∙ ap (λ (k : ℕ). size k ns (Some (record { node = at; level = l; bits = p }))) e
+        ap (λ (o : Option Slot). size (rest - l) ns o) (slot_at l p h) ∙ ap (λ (k : ℕ). size k ns (Some (record { node = at; tier = l; path = p }))) e
 
     pub under_halves : under_slot l p ≡ cond set (2 ^ (rest - l)) (under_slot (suc l) (2 * p) + under_slot (suc l) (2 * p + 1))
     under_halves =

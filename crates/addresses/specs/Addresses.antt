@@ -1,26 +1,17 @@
--- Addresses, which are keys of whole length: which have a longest match, all of a block, and how many there are.
-use Rattle.std.specs.Prelude.{ℕ, zero, suc, ◌+◌, ◌-◌, ◌^◌, Bool, true, ◌&&◌, cond, List, is_some}
-use Rattle.keys.specs.Blocks.{Block, block_of}
-use Rattle.register.specs.Entries.{Entry, longest}
+-- Addresses, which are keys of whole length: which lie in a block of a register, whether all of a block do, and how many do.
+use Rattle.std.specs.Prelude.{ℕ, ◌-◌, ◌^◌, Bool, List, count_by}
+use Rattle.std.specs.List.{list_all, list_any, range_with_len}
+use Rattle.keys.specs.Blocks.{Block, address_block, contains}
+use Rattle.register.specs.Entries.{Entry}
 
--- f holds of each of the n numbers from a on
-abbrev pub each : (ℕ → Bool) → ℕ → ℕ → Bool
-each f a zero = true
-each f a (suc n) = f a && each f (suc a) n
-
--- of how many of them f holds
-abbrev pub count : (ℕ → Bool) → ℕ → ℕ → ℕ
-count f a zero = 0
-count f a (suc n) = cond (f a) 1 0 + count f (suc a) n
-
--- the address a, under keys of w bits, has a longest match
+-- some entry contains the address a, under keys of w bits: as a block of length w, which has no other address
 abbrev pub matched : {A : Type 0} → ℕ → List (Entry A) → ℕ → Bool
-matched w es a = is_some (longest w (block_of w a w) es)
+matched w es a = list_any (λ e. contains w e.block (address_block w a)) es
 
--- each address of the block has one: a block of length n has 2^(w - n) addresses
+-- each address of the block is matched: a block of length n has 2^(w - n) of them, from its own on
 abbrev pub covered : {A : Type 0} → ℕ → Block → List (Entry A) → Bool
-covered w b es = each (matched w es) b.address (2 ^ (w - b.len))
+covered w b es = list_all (matched w es) (range_with_len b.address (2 ^ (w - b.len)))
 
--- how many addresses have one
+-- how many addresses are
 abbrev pub matched_addresses : {A : Type 0} → ℕ → List (Entry A) → ℕ
-matched_addresses w es = count (matched w es) 0 (2 ^ w)
+matched_addresses w es = count_by (matched w es) (range_with_len 0 (2 ^ w))

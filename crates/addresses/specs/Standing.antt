@@ -9,10 +9,10 @@ pub record Standing (ns : List Node) (at rest : ℕ) : Type 0 where
   pub values : ℕ
   pub sound : Sound width ns values
   pub narrow : width ≤ 64
-  pub depth : ℕ
-  pub reached : Reached ns depth at
-  pub left : 5 * depth + rest ≡ width
+  pub level : ℕ
+  pub reached : Reached ns level at
+  pub left : 5 * level + rest ≡ width
 
--- the level of a data slot: level l begins at 2^l - 1
-unfoldable pub level_of : ℕ → ℕ
-level_of b = cond (nat_lt b 1) 0 (cond (nat_lt b 3) 1 (cond (nat_lt b 7) 2 (cond (nat_lt b 15) 3 4)))
+-- the tier of a data slot: tier l begins at 2^l - 1
+unfoldable pub tier_of : ℕ → ℕ
+tier_of b = cond (nat_lt b 1) 0 (cond (nat_lt b 3) 1 (cond (nat_lt b 7) 2 (cond (nat_lt b 15) 3 4)))

@@ -1,4 +1,4 @@
--- Sums over the numbers below a bound, and over the set bits of a bitmap.
+-- Sums over the numbers below a bound, and over the set bits of a bitmap, as the descents add up.
 use Rattle.std.specs.Prelude.{ℕ, zero, suc, ◌+◌, cond}
 use Rattle.nodes.specs.Bitmaps.{bit}
 

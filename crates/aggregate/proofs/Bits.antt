@@ -7,7 +7,7 @@ use Rattle.std.proofs.lemmas.Nat.Bits.{bit_at_or, same_from_bits_below}
 use Rattle.nodes.specs.Bitmaps.{bit}
 use Rattle.slots.proofs.Bits.{bit_end_32, bit_mod}
 use Rattle.slots.proofs.Masks.{bit_mask, mask_lt}
-use Rattle.slots.specs.Masks.{mask, of_level}
+use Rattle.slots.specs.Masks.{mask, of_tier}
 
 or_digit : (p q : ℕ) → p < 2 → q < 2 → eqb (max p q) 1 ≡ (eqb p 1 || eqb q 1)
 or_digit zero zero h k = refl
@@ -73,9 +73,9 @@ pub where_true : (t : Bool) {r s : Bool} → (t ≡ true → r ≡ s) → (t && 
 where_true true e = e refl
 where_true false e = refl
 
--- the bits of a level begin at 2^l - 1, and the next level's where they end
-pub level_from : (l b : ℕ) → of_level l b ≡ true → 2 ^ l - 1 ≤ b
-level_from l b t = leb-true (2 ^ l - 1) b (and_parts (nat_le (2 ^ l - 1) b) (nat_lt b (2 ^ suc l - 1)) t).0
+-- the bits of a tier begin at 2^l - 1, and the next tier's where they end
+pub tier_from : (l b : ℕ) → of_tier l b ≡ true → 2 ^ l - 1 ≤ b
+tier_from l b t = leb-true (2 ^ l - 1) b (and_parts (nat_le (2 ^ l - 1) b) (nat_lt b (2 ^ suc l - 1)) t).0
 
-pub level_to : (l b : ℕ) → of_level l b ≡ true → b < 2 ^ suc l - 1
-level_to l b t = ltb-true b (2 ^ suc l - 1) (and_parts (nat_le (2 ^ l - 1) b) (nat_lt b (2 ^ suc l - 1)) t).1
+pub tier_to : (l b : ℕ) → of_tier l b ≡ true → b < 2 ^ suc l - 1
+tier_to l b t = ltb-true b (2 ^ suc l - 1) (and_parts (nat_le (2 ^ l - 1) b) (nat_lt b (2 ^ suc l - 1)) t).1

@@ -4,18 +4,18 @@ use Rattle.std.proofs.Math.Nat.{mul-le-mul_right}
 use Rattle.std.proofs.lemmas.Bool.{cases_lt, lt-ltb, le-ltb, ltb-true, cond-true, cond-false}
 use Rattle.nodes.specs.Bitmaps.{bit}
 use Rattle.aggregate.proofs.Bits.{where_true}
-use Rattle.aggregate.specs.Halves.{full, full_range, under, under_set, whole}
+use Rattle.aggregate.specs.Halves.{full, full_range, under, under_set, parent}
 
 -- one more step up changes nothing where k steps reach slot 0
 under_more : (k m b : ℕ) → b + 1 < 2 ^ suc k → under k m b ≡ under (suc k) m b
-under_more zero m b h = let e : b ≡ 0 = omega arith in ap (λ (x : ℕ). nat_lt 0 x && (bit m (whole b) || false)) (sym e)
+under_more zero m b h = let e : b ≡ 0 = omega arith in ap (λ (x : ℕ). nat_lt 0 x && (bit m (parent b) || false)) (sym e)
 under_more (suc k) m b h =
-    where_true (nat_lt 0 b) (λ t. ap (λ (s : Bool). bit m (whole b) || s) (under_more k m (whole b) (omega (arith, ltb-true 0 b t, h, pow-suc 2 (suc k)))))
+    where_true (nat_lt 0 b) (λ t. ap (λ (s : Bool). bit m (parent b) || s) (under_more k m (parent b) (omega (arith, ltb-true 0 b t, h, pow-suc 2 (suc k)))))
 
 pub under_half : (m b : ℕ) → 0 < b → b ≤ 62 → under_set m b ≡ (bit m ((b - 1) / 2) || under_set m ((b - 1) / 2))
 unfolding under_set
 under_half m b p h =
-    ap (λ (t : Bool). t && (bit m (whole b) || under 4 m (whole b))) (lt-ltb 0 b p) ∙ ap (λ (s : Bool). bit m (whole b) || s) (under_more 4 m (whole b) (omega arith))
+    ap (λ (t : Bool). t && (bit m (parent b) || under 4 m (parent b))) (lt-ltb 0 b p) ∙ ap (λ (s : Bool). bit m (parent b) || s) (under_more 4 m (parent b) (omega arith))
 
 pub under_top : (m : ℕ) → under_set m 0 ≡ false
 unfolding under_set

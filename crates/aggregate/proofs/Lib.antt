@@ -1,5 +1,5 @@
 pub mod Bits
 pub mod Terms
 pub mod Halves
-pub mod Levels
+pub mod Tiers
 pub mod Lowest

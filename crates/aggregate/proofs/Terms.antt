@@ -1,15 +1,15 @@
--- Each bit of a term of shifts, ors and masks comes from one bit of its input: so the terms that push a level down or fold it up have the bits that they should.
+-- Each bit of a term of shifts, ors and masks comes from one bit of its input: so the terms that push a tier down or fold it up have the bits that they should.
 use Rattle.std.proofs.Common.{◌≡◌, ℕ, zero, suc, ◌+◌, ◌-◌, ◌*◌, ◌/◌, ◌%◌, ◌^◌, ◌<◌, Bool, true, false, cond, ◌&&◌, ◌||◌, eqb, nat_le, nat_lt, List, [], ◌∷◌, ◌++◌, sym, refl, ap, ap₂, ◌∙◌, not-suc-le-zero, arith, pow_pos, shr-shr}
 use lib.Bits.{bit_and, bit_or, or_lt, and_le_l}
 use lib.Pointwise.{pointwise, bytes_decides}
 use Rattle.std.proofs.lemmas.Bool.{agree_below, agree_below_at}
 use Rattle.std.proofs.lemmas.Nat.{shr_le}
 use Rattle.nodes.specs.Bitmaps.{bit}
-use Rattle.aggregate.proofs.Bits.{bit_bit_or, bit_left, bit_right, mask_bits, mask_same, where_true, level_from}
-use Rattle.aggregate.specs.Halves.{whole}
+use Rattle.aggregate.proofs.Bits.{bit_bit_or, bit_left, bit_right, mask_bits, mask_same, where_true, tier_from}
+use Rattle.aggregate.specs.Halves.{parent}
 use Rattle.aggregate.specs.Steps.{folded, folded_in, pushed, pushed_out}
 use Rattle.slots.proofs.Bits.{bit_bit_and}
-use Rattle.slots.specs.Masks.{mask, mask_below, of_level}
+use Rattle.slots.specs.Masks.{mask, mask_below, of_tier}
 
 pub data Term : Type 0 where
   input : Term
@@ -103,30 +103,30 @@ abbrev spread : ℕ → ℕ → ℕ → Term → Term
 spread base size zero e = either e (left 1 e)
 spread base size (suc j) e = spread base size j (keep (groups base size (2 ^ j)) (either e (left (2 ^ j) e)))
 
--- from a level to the one below it
+-- from a tier to the one below it
 abbrev pub push : ℕ → Term
-push l = spread (2 ^ suc l - 1) (2 ^ suc l) l (left (2 ^ l) (keep (mask_below 32 (of_level l)) input))
+push l = spread (2 ^ suc l - 1) (2 ^ suc l) l (left (2 ^ l) (keep (mask_below 32 (of_tier l)) input))
 
 pub push_is : (n m : ℕ) → 0 < n → n < 5 → m < 2 ^ 32 → mask (pushed n m) ≡ value (push (n - 1)) m
 unfolding pushed
 push_is zero m z h b = absurd (not-suc-le-zero z)
 push_is (suc l) m z h b =
     let e : suc l - 1 ≡ l = omega arith in
-    sym (taken (push l) m (of_level (suc l)) whole b (agree_below_at (λ l. takes (push l) (of_level (suc l)) whole) (λ _. true) 4 l refl (omega arith))) ∙ ap (λ (x : ℕ). value (push x) m) (sym e)
+    sym (taken (push l) m (of_tier (suc l)) parent b (agree_below_at (λ l. takes (push l) (of_tier (suc l)) parent) (λ _. true) 4 l refl (omega arith))) ∙ ap (λ (x : ℕ). value (push x) m) (sym e)
 
 abbrev pub push_out : Term
 push_out = spread 0 32 4 (keep 65535 (right 15 input))
 
 pub push_out_is : (m : ℕ) → m < 2 ^ 32 → mask (pushed_out m) ≡ value push_out m
 unfolding pushed_out
-push_out_is m b = sym (taken push_out m (λ _. true) (λ c. whole (31 + c)) b refl)
+push_out_is m b = sym (taken push_out m (λ _. true) (λ c. parent (31 + c)) b refl)
 
 -- the groups of every other place packed together, from groups of 2^i bits on, j times
 abbrev pack : ℕ → ℕ → ℕ → ℕ → Term → Term
 pack base size i zero e = e
 pack base size i (suc j) e = pack base size (suc i) j (keep (groups base size (2 ^ suc i)) (either e (right (2 ^ i) e)))
 
--- to a level from the one below it: the input has at a place the and of it and the next
+-- to a tier from the one below it: the input has at a place the and of it and the next
 abbrev pub fold : ℕ → Term
 fold l = pack (2 ^ l - 1) (2 ^ suc l) 0 l (keep (groups (2 ^ l - 1) (2 ^ suc l) 1) input)
 
@@ -139,11 +139,11 @@ bit_pairs s b = bit_bit_and s (s / 2 ^ 1) b ∙ ap (λ (t : Bool). bit s b && t)
 pairs_lt : (s : ℕ) → s < 2 ^ 32 → pairs s < 2 ^ 32
 pairs_lt s h = omega (arith, h, and_le_l s (s / 2 ^ 1))
 
-halves_at : (m l b : ℕ) → of_level l b ≡ true → bit (pairs (m / 2 ^ (2 ^ l))) (2 * b - (2 ^ l - 1)) ≡ (bit m (2 * b + 1) && bit m (2 * b + 2))
+halves_at : (m l b : ℕ) → of_tier l b ≡ true → bit (pairs (m / 2 ^ (2 ^ l))) (2 * b - (2 ^ l - 1)) ≡ (bit m (2 * b + 1) && bit m (2 * b + 2))
 halves_at m l b t =
     let k : ℕ = 2 ^ l in
     let j : ℕ = 2 * b - (k - 1) in
-    let first : k + j ≡ 2 * b + 1 = omega (arith, level_from l b t, pow_pos l) in
+    let first : k + j ≡ 2 * b + 1 = omega (arith, tier_from l b t, pow_pos l) in
     let second : k + (1 + j) ≡ 2 * b + 2 = omega (arith, first) in
     bit_pairs (m / 2 ^ k) j ∙ ap₂ (λ (r s : Bool). r && s) (bit_right m k j ∙ ap (bit m) first) (bit_right m k (1 + j) ∙ ap (bit m) second)
 
@@ -153,23 +153,23 @@ fold_is l m h b =
     let s : ℕ = m / 2 ^ (2 ^ l) in
     let lt : s < 2 ^ 32 = omega (arith, b, shr_le m (2 ^ l)) in
     sym
-    (taken (fold l) (pairs s) (of_level l) (λ i. 2 * i - (2 ^ l - 1)) (pairs_lt s lt) (agree_below_at (λ l. takes (fold l) (of_level l) (λ i. 2 * i - (2 ^ l - 1))) (λ _. true) 4 l refl h)
-    ∙ mask_same _ _ (λ i _. where_true (of_level l i) (halves_at m l i)))
+    (taken (fold l) (pairs s) (of_tier l) (λ i. 2 * i - (2 ^ l - 1)) (pairs_lt s lt) (agree_below_at (λ l. takes (fold l) (of_tier l) (λ i. 2 * i - (2 ^ l - 1))) (λ _. true) 4 l refl h)
+    ∙ mask_same _ _ (λ i _. where_true (of_tier l i) (halves_at m l i)))
 
--- the top level by one shift for each half
+-- the top tier by one shift for each half
 pub fold_top_is : (m : ℕ) → m < 2 ^ 32 → mask (folded 0 m) ≡ bit_and (bit_and (m / 2 ^ 1) (m / 2 ^ 2)) 1
 fold_top_is m b = fold_is 0 m (omega arith) b ∙ ap (λ (x : ℕ). bit_and (bit_and (m / 2 ^ 1) x) 1) (shr-shr m 1 1)
 
 abbrev pub fold_in : Term
 fold_in = left 15 (pack 0 32 0 4 (keep (groups 0 32 1) input))
 
-child_halves_at : (m b : ℕ) → of_level 4 b ≡ true → bit (pairs m) (2 * b - 30) ≡ (bit m (2 * b + 1 - 31) && bit m (2 * b + 2 - 31))
+child_halves_at : (m b : ℕ) → of_tier 4 b ≡ true → bit (pairs m) (2 * b - 30) ≡ (bit m (2 * b + 1 - 31) && bit m (2 * b + 2 - 31))
 child_halves_at m b t =
     let first : 2 * b - 30 ≡ 2 * b + 1 - 31 = omega arith in
-    let second : 1 + (2 * b - 30) ≡ 2 * b + 2 - 31 = omega (arith, level_from 4 b t) in
+    let second : 1 + (2 * b - 30) ≡ 2 * b + 2 - 31 = omega (arith, tier_from 4 b t) in
     bit_pairs m (2 * b - 30) ∙ ap₂ (λ (r s : Bool). r && s) (ap (bit m) first) (ap (bit m) second)
 
 pub fold_in_is : (m : ℕ) → m < 2 ^ 32 → mask (folded_in m) ≡ value fold_in (pairs m)
 unfolding folded_in
 fold_in_is m b =
-    sym (taken fold_in (pairs m) (of_level 4) (λ i. 2 * i - 30) (pairs_lt m b) refl ∙ mask_same _ _ (λ i _. where_true (of_level 4 i) (child_halves_at m i)))
+    sym (taken fold_in (pairs m) (of_tier 4) (λ i. 2 * i - 30) (pairs_lt m b) refl ∙ mask_same _ _ (λ i _. where_true (of_tier 4 i) (child_halves_at m i)))

@@ -1,15 +1,15 @@
--- A node's slots and their halves: slot b has the halves 2 * b + 1 and 2 * b + 2. The slots below 31 are the data slots, and from there on 31 + c is the child slot c.
+-- A node's slots as a binary tree: slot b has the halves 2 * b + 1 and 2 * b + 2. The slots below 31 are the data slots, tier by tier, and from there on 31 + c is the child slot c.
 use Rattle.std.specs.Prelude.{ℕ, zero, suc, ◌+◌, ◌-◌, ◌*◌, ◌/◌, Bool, false, cond, ◌&&◌, ◌||◌, nat_lt}
 use Rattle.nodes.specs.Bitmaps.{bit}
 
 -- the slot that b is a half of
-abbrev pub whole : ℕ → ℕ
-whole b = (b - 1) / 2
+abbrev pub parent : ℕ → ℕ
+parent b = (b - 1) / 2
 
 -- one of the nearest k slots that b is a part of is set
 abbrev pub under : ℕ → ℕ → ℕ → Bool
 under zero m b = false
-under (suc k) m b = nat_lt 0 b && (bit m (whole b) || under k m (whole b))
+under (suc k) m b = nat_lt 0 b && (bit m (parent b) || under k m (parent b))
 
 -- a data slot is set that b is a strict part of; it is a part of five at most
 unfoldable pub under_set : ℕ → ℕ → Bool

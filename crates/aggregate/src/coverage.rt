@@ -8,7 +8,7 @@ use crate::push::{push_l0, push_l1, push_l2, push_l3, push_l4};
 
 // The data slots and the child slots that lie strictly under a set data slot. Bit 31 of the data
 // slots is no slot, and is never marked.
-#[tactic(auto, using(crate::proofs::Levels::marked_first, crate::proofs::Levels::marked_next, crate::proofs::Levels::marked_data, crate::proofs::Levels::marked_children))]
+#[tactic(auto, using(crate::proofs::Tiers::marked_first, crate::proofs::Tiers::marked_next, crate::proofs::Tiers::marked_data, crate::proofs::Tiers::marked_children))]
 pub fn member_coverage(data_bitmap: u32) -> (u32, u32)
     ensures data { result.0 ≡ mask (λ b. nat_lt b 31 && under_set data_bitmap b) }
     ensures children { result.1 ≡ mask (λ c. under_set data_bitmap (31 + c)) }
@@ -24,7 +24,7 @@ pub fn member_coverage(data_bitmap: u32) -> (u32, u32)
 
 // The data slots whose whole range is covered by set data slots and covered child slots. Bit 31 is
 // no slot, and stays as it is.
-#[tactic(auto, using(crate::proofs::Levels::gathered_first, crate::proofs::Levels::gathered_next, crate::proofs::Levels::gathered_data))]
+#[tactic(auto, using(crate::proofs::Tiers::gathered_first, crate::proofs::Tiers::gathered_next, crate::proofs::Tiers::gathered_data))]
 pub fn fold_coverage(data_bitmap: u32, child_coverage: u32) -> u32
     ensures { result ≡ mask (full_range data_bitmap child_coverage) }
 {

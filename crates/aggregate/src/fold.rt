@@ -1,4 +1,4 @@
-// The slots of a level both of whose halves are set, from the bits one level down.
+// The slots of a tier both of whose halves are set, from the bits one tier down.
 ghost use Rattle.aggregate.specs.Steps.{folded, folded_in};
 ghost use Rattle.slots.specs.Masks.{mask};
 ghost use Rattle.std.specs.Prelude.{◌≡◌};

@@ -1,4 +1,5 @@
-// What a node's set slots cover: the slots under a set slot, and the slots whose whole range is covered.
+// What a node's set slots cover: the slots under a set slot, and the slots whose whole range is
+// covered. Each answer is the defined mask, for every bitmap.
 #![tactic(auto)]
 
 pub mod coverage;

@@ -1,4 +1,4 @@
-// A level's bits copied into both halves of each slot, one level down.
+// A tier's bits copied into both halves of each slot, one tier down.
 ghost use Rattle.aggregate.specs.Steps.{pushed, pushed_out};
 ghost use Rattle.slots.specs.Masks.{mask};
 ghost use Rattle.std.specs.Prelude.{◌≡◌};

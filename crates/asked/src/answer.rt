@@ -1,25 +1,20 @@
-// Answers, of the table and of the library.
+// Answers, of the table and of the library. A word that is none has no reading.
 ghost use Rattle.std.specs.Prelude.{◌≡◌, true};
 ghost use Rattle.std.proofs.Common.{rules};
 
-use anyhow::{Context, anyhow};
 use coverage::AddressCount;
 use keys::Key;
 use nodes::error::{ArchiveError, NoSuchFault};
 use prefix::Prefix;
 use std::fmt;
-use std::num::ParseIntError;
-use std::str::FromStr;
 
 // A refusal as the table names it: the fault with this number, or a number that no fault has.
 #[derive(Clone, Copy, PartialEq, Eq)]
 pub struct Refusal(pub Result<ArchiveError, NoSuchFault>);
 
-impl FromStr for Refusal {
-    type Err = ParseIntError;
-
-    fn from_str(word: &str) -> Result<Refusal, ParseIntError> {
-        Ok(Refusal(ArchiveError::try_from(word.parse::<u32>()?)))
+impl Refusal {
+    pub(crate) fn parse(word: &str) -> Option<Refusal> {
+        Some(Refusal(ArchiveError::try_from(word.parse::<u32>().ok()?)))
     }
 }
 
@@ -46,23 +41,6 @@ pub struct Entry {
     pub place: u32,
 }
 
-// `ADDRESS/LEN@PLACE`
-impl FromStr for Entry {
-    type Err = anyhow::Error;
-
-    fn from_str(word: &str) -> anyhow::Result<Entry> {
-        let (block, place) = word
-            .split_once('@')
-            .context("an entry is ADDRESS/LEN@PLACE")?;
-        let (address, len) = block.split_once('/').context("a block is ADDRESS/LEN")?;
-        Ok(Entry {
-            address: address.parse::<u64>()?,
-            len: len.parse::<u8>()?,
-            place: place.parse::<u32>()?,
-        })
-    }
-}
-
 // What the library's matches give of a prefix and its place.
 impl<P: Prefix> From<(P, u32)> for Entry {
     fn from(hit: (P, u32)) -> Entry {
@@ -83,6 +61,8 @@ impl fmt::Display for Entry {
 
 // What a call finds, a place or an entry.
 pub trait Found: Copy + Eq + fmt::Display + Drop {
+    fn parse(word: &str) -> Option<Self>;
+
     // The place that it names.
     fn place(&self) -> u32;
 
@@ -93,13 +73,28 @@ pub trait Found: Copy + Eq + fmt::Display + Drop {
 impl Found for u32 {
     ghost same = { Prim.search rules };
 
+    fn parse(word: &str) -> Option<u32> {
+        word.parse::<u32>().ok()
+    }
+
     fn place(&self) -> u32 {
         *self
     }
 }
 
+// `ADDRESS/LEN@PLACE`
 impl Found for Entry {
     ghost same = { Prim.search rules };
+
+    fn parse(word: &str) -> Option<Entry> {
+        let (block, place) = word.split_once('@')?;
+        let (address, len) = block.split_once('/')?;
+        Some(Entry {
+            address: address.parse::<u64>().ok()?,
+            len: len.parse::<u8>().ok()?,
+            place: place.parse::<u32>().ok()?,
+        })
+    }
 
     fn place(&self) -> u32 {
         self.place
@@ -110,14 +105,12 @@ impl Found for Entry {
 #[derive(Clone, Copy, PartialEq, Eq)]
 pub struct Answer<T>(pub Result<Option<T>, Refusal>);
 
-// `none`, or what is found
-impl<T: FromStr> FromStr for Answer<T> {
-    type Err = T::Err;
-
-    fn from_str(word: &str) -> Result<Answer<T>, T::Err> {
+impl<T: Found> Answer<T> {
+    // `none`, or what is found
+    pub(crate) fn parse(word: &str) -> Option<Answer<T>> {
         match word {
-            "none" => Ok(Answer(Ok(None))),
-            _ => Ok(Answer(Ok(Some(word.parse::<T>()?)))),
+            "none" => Some(Answer(Ok(None))),
+            _ => Some(Answer(Ok(Some(T::parse(word)?)))),
         }
     }
 }
@@ -164,14 +157,12 @@ impl<T: Found> Answered for Answer<T> {
 #[derive(Clone, Copy, PartialEq, Eq)]
 pub struct Coverage(pub Result<bool, Refusal>);
 
-impl FromStr for Coverage {
-    type Err = anyhow::Error;
-
-    fn from_str(word: &str) -> anyhow::Result<Coverage> {
+impl Coverage {
+    pub(crate) fn parse(word: &str) -> Option<Coverage> {
         match word {
-            "1" => Ok(Coverage(Ok(true))),
-            "0" => Ok(Coverage(Ok(false))),
-            _ => Err(anyhow!("a block is covered, 1, or not, 0")),
+            "1" => Some(Coverage(Ok(true))),
+            "0" => Some(Coverage(Ok(false))),
+            _ => None,
         }
     }
 }
@@ -201,13 +192,11 @@ impl Answered for Coverage {
 #[derive(Clone, Copy, PartialEq, Eq)]
 pub struct Count(pub AddressCount);
 
-impl FromStr for Count {
-    type Err = ParseIntError;
-
-    fn from_str(word: &str) -> Result<Count, ParseIntError> {
+impl Count {
+    pub(crate) fn parse(word: &str) -> Option<Count> {
         match word {
-            "whole" => Ok(Count(AddressCount::Whole)),
-            _ => Ok(Count(AddressCount::Number(word.parse::<u64>()?))),
+            "whole" => Some(Count(AddressCount::Whole)),
+            _ => Some(Count(AddressCount::Number(word.parse::<u64>().ok()?))),
         }
     }
 }

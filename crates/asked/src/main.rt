@@ -16,12 +16,15 @@ use crate::section::Section;
 use crate::tally::Tally;
 use anyhow::Context;
 use std::io::{BufRead, BufReader};
+use tables::compared::add_one;
 use tables::line::is_remark;
 
-// A table as it is read: the image that queries are being read for, if any, and what was counted.
+// A table as it is read: how many lines, the image that queries are being read for, if any, and what
+// was counted.
 #[derive(Drop)]
 struct Reader<'a> {
     rt: &'a HostRuntime,
+    line: u64,
     open: Option<Section>,
     tally: Tally,
 }
@@ -35,42 +38,56 @@ impl<'a> Reader<'a> {
         }
     }
 
-    fn take_line(&mut self, line: u64, text: &str) -> anyhow::Result<()> {
-        if let Some(lists) = text.strip_prefix("image ") {
-            self.close()?;
-            self.open = Some(Section::parse(self.rt.alloc(), line, lists)?);
-            return Ok(());
-        }
+    fn take_image(&mut self, lists: &str) -> anyhow::Result<()> {
+        self.close()?;
+        self.open = Some(Section::parse(self.rt.alloc(), self.line, lists)?);
+        Ok(())
+    }
+
+    fn take_query(&mut self, text: &str) -> anyhow::Result<()> {
         let section = self
             .open
             .as_mut()
             .context("a query before the first image")?;
-        let question = Question::parse(section.width, text)?;
-        Ok(section.push(line, question)?)
+        let question = Question::parse(section.width, text).context("no query")?;
+        Ok(section.push(self.line, question)?)
     }
 
-    fn read_line(&mut self, line: u64, text: &str) -> anyhow::Result<()> {
+    fn take_line(&mut self, text: &str) -> anyhow::Result<()> {
+        match text.strip_prefix("image ") {
+            Some(lists) => self.take_image(lists),
+            None => self.take_query(text),
+        }
+    }
+
+    fn read_line(&mut self, text: &str) -> anyhow::Result<()> {
+        add_one(&mut self.line);
         if is_remark(text) {
             return Ok(());
         }
-        if let Err(e) = self.take_line(line, text) {
-            println!(self.rt; "line {line} is neither an image nor a query")?;
+        if let Err(e) = self.take_line(text) {
+            println!(self.rt; "line {} is neither an image nor a query", self.line)?;
             return Err(e);
         }
         Ok(())
+    }
+
+    fn read_all(&mut self) -> anyhow::Result<()> {
+        for text in BufReader::new(self.rt.alloc(), self.rt.stdin())?.lines(self.rt.alloc()) {
+            self.read_line(&text?)?;
+        }
+        self.close()
     }
 }
 
 fn main(rt: HostRuntime) -> anyhow::Result<()> {
     let mut reader = Reader {
         rt: &rt,
+        line: 0,
         open: None,
         tally: Tally::new(),
     };
-    for (line, text) in (1u64..).zip(BufReader::new(rt.alloc(), rt.stdin())?.lines(rt.alloc())) {
-        reader.read_line(line, &text?)?;
-    }
-    reader.close()?;
+    reader.read_all()?;
     println!(rt; "{}", reader.tally)?;
     Ok(())
 }

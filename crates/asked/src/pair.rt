@@ -1,9 +1,6 @@
 // A pair of a key of some width and a length, `KEY/LEN`.
-use anyhow::Context;
 use prefix::pair::Pair;
 use prefix::span::Span;
-use std::num::ParseIntError;
-use std::str::FromStr;
 use tables::width::Width;
 
 #[derive(Clone, Copy)]
@@ -16,12 +13,29 @@ pub enum AnyPair {
 
 impl AnyPair {
     // Not `FromStr`, which takes no width. A width picks a type parameter, which takes an arm for each.
-    pub(crate) fn parse(width: Width, word: &str) -> anyhow::Result<AnyPair> {
+    pub(crate) fn parse(width: Width, word: &str) -> Option<AnyPair> {
+        let (key, len) = word.split_once('/')?;
+        AnyPair::new(width, key, len.parse::<u8>().ok()?)
+    }
+
+    fn new(width: Width, key: &str, len: u8) -> Option<AnyPair> {
         match width {
-            Width::Bits8 => Ok(AnyPair::Bits8(parse_pair(word)?)),
-            Width::Bits16 => Ok(AnyPair::Bits16(parse_pair(word)?)),
-            Width::Bits32 => Ok(AnyPair::Bits32(parse_pair(word)?)),
-            Width::Bits64 => Ok(AnyPair::Bits64(parse_pair(word)?)),
+            Width::Bits8 => Some(AnyPair::Bits8(Pair {
+                repr: key.parse().ok()?,
+                len,
+            })),
+            Width::Bits16 => Some(AnyPair::Bits16(Pair {
+                repr: key.parse().ok()?,
+                len,
+            })),
+            Width::Bits32 => Some(AnyPair::Bits32(Pair {
+                repr: key.parse().ok()?,
+                len,
+            })),
+            Width::Bits64 => Some(AnyPair::Bits64(Pair {
+                repr: key.parse().ok()?,
+                len,
+            })),
         }
     }
 
@@ -32,15 +46,6 @@ impl AnyPair {
             _ => None,
         }
     }
-}
-
-fn parse_pair<K: FromStr<Err = ParseIntError> + Drop>(word: &str) -> anyhow::Result<Pair<K>> {
-    let (key, len) = word.split_once('/').context("a pair is KEY/LEN")?;
-    let len = len.parse::<u8>()?;
-    Ok(Pair {
-        repr: key.parse::<K>()?,
-        len,
-    })
 }
 
 fn span_of(pair: &Pair<u32>) -> Option<Span> {

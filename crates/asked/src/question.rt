@@ -7,7 +7,7 @@
 // `count COUNT`, the number of addresses that the crate gives, or `whole`.
 use crate::answer::{Answer, Count, Coverage, Entry, Refusal};
 use crate::pair::AnyPair;
-use anyhow::{Context, anyhow};
+use std::str::SplitAsciiWhitespace;
 use tables::width::Width;
 
 // The answers to the three matches of one pair.
@@ -39,50 +39,73 @@ pub enum Question {
 
 impl Question {
     // A pair without a width of its own has that of the image. Not `FromStr`, which takes no width.
-    pub(crate) fn parse(width: Width, text: &str) -> anyhow::Result<Question> {
-        let (name, rest) = text.split_once(' ').context("a query has several words")?;
+    pub(crate) fn parse(width: Width, text: &str) -> Option<Question> {
+        let (name, rest) = text.split_once(' ')?;
         let mut words = rest.split_ascii_whitespace();
-        let question = match name {
-            "ask" => Question::Match(
-                AnyPair::parse(width, words.next().context("no pair")?)?,
-                Answers {
-                    exact: words.next().context("no exact match")?.parse()?,
-                    longest: words.next().context("no longest match")?.parse()?,
-                    shortest: words.next().context("no shortest match")?.parse()?,
-                },
-            ),
-            "refuse" => {
-                let width = words.next().context("no width")?.parse::<Width>()?;
-                let pair = AnyPair::parse(width, words.next().context("no pair")?)?;
-                let refusal = words.next().context("no fault")?.parse::<Refusal>()?;
-                Question::Match(pair, Answers::from(refusal))
-            }
-            "value" => {
-                let place = words.next().context("no place")?.parse::<u32>()?;
-                Question::Value(place, Answer(Ok(Some(place))))
-            }
-            "refuse-value" => {
-                let place = words.next().context("no place")?.parse::<u32>()?;
-                let refusal = words.next().context("no fault")?.parse::<Refusal>()?;
-                Question::Value(place, Answer(Err(refusal)))
-            }
-            "covered" => {
-                let pair = AnyPair::parse(width, words.next().context("no pair")?)?;
-                let covered = words.next().context("no answer")?.parse::<Coverage>()?;
-                Question::Coverage(pair, covered)
-            }
-            "refuse-covered" => {
-                let width = words.next().context("no width")?.parse::<Width>()?;
-                let pair = AnyPair::parse(width, words.next().context("no pair")?)?;
-                let refusal = words.next().context("no fault")?.parse::<Refusal>()?;
-                Question::Coverage(pair, Coverage(Err(refusal)))
-            }
-            "count" => Question::Count(words.next().context("no count")?.parse::<Count>()?),
-            _ => return Err(anyhow!("no query begins with this word")),
-        };
-        if words.next().is_some() {
-            return Err(anyhow!("a word too many"));
+        let question = named(name, width, &mut words)?;
+        match words.next() {
+            None => Some(question),
+            Some(_) => None,
         }
-        Ok(question)
     }
+}
+
+fn named(name: &str, width: Width, words: &mut SplitAsciiWhitespace<'_>) -> Option<Question> {
+    match name {
+        "ask" => matched(width, words),
+        "refuse" => refused(words),
+        "value" => value(words),
+        "refuse-value" => refused_value(words),
+        "covered" => covered(width, words),
+        "refuse-covered" => refused_coverage(words),
+        "count" => Some(Question::Count(Count::parse(words.next()?)?)),
+        _ => None,
+    }
+}
+
+fn matched(width: Width, words: &mut SplitAsciiWhitespace<'_>) -> Option<Question> {
+    let pair = AnyPair::parse(width, words.next()?)?;
+    let exact = Answer::parse(words.next()?)?;
+    let longest = Answer::parse(words.next()?)?;
+    let shortest = Answer::parse(words.next()?)?;
+    Some(Question::Match(
+        pair,
+        Answers {
+            exact,
+            longest,
+            shortest,
+        },
+    ))
+}
+
+fn covered(width: Width, words: &mut SplitAsciiWhitespace<'_>) -> Option<Question> {
+    let pair = AnyPair::parse(width, words.next()?)?;
+    Some(Question::Coverage(pair, Coverage::parse(words.next()?)?))
+}
+
+fn value(words: &mut SplitAsciiWhitespace<'_>) -> Option<Question> {
+    let place = words.next()?.parse::<u32>().ok()?;
+    Some(Question::Value(place, Answer(Ok(Some(place)))))
+}
+
+fn refused_value(words: &mut SplitAsciiWhitespace<'_>) -> Option<Question> {
+    let place = words.next()?.parse::<u32>().ok()?;
+    Some(Question::Value(place, Answer(Err(Refusal::parse(words.next()?)?))))
+}
+
+// A pair with its width, and its refusal.
+fn refused_pair(words: &mut SplitAsciiWhitespace<'_>) -> Option<(AnyPair, Refusal)> {
+    let width = words.next()?.parse::<Width>().ok()?;
+    let pair = AnyPair::parse(width, words.next()?)?;
+    Some((pair, Refusal::parse(words.next()?)?))
+}
+
+fn refused(words: &mut SplitAsciiWhitespace<'_>) -> Option<Question> {
+    let (pair, refusal) = refused_pair(words)?;
+    Some(Question::Match(pair, Answers::from(refusal)))
+}
+
+fn refused_coverage(words: &mut SplitAsciiWhitespace<'_>) -> Option<Question> {
+    let (pair, refusal) = refused_pair(words)?;
+    Some(Question::Coverage(pair, Coverage(Err(refusal))))
 }

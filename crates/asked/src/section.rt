@@ -3,6 +3,7 @@ use crate::question::Question;
 use anyhow::Context;
 use nodes::node::Node;
 use std::alloc::{AllocError, Global};
+use std::str::SplitAsciiWhitespace;
 use tables::node_word::NodeWord;
 use tables::width::Width;
 
@@ -27,16 +28,11 @@ impl Section {
     // The words behind `image`. Not `FromStr`, which takes no allocator and no line.
     pub(crate) fn parse(alloc: Global, line: u64, text: &str) -> anyhow::Result<Section> {
         let mut words = text.split_ascii_whitespace();
-        let width = words.next().context("no width")?.parse::<Width>()?;
-        let count = words.next().context("no number of values")?.parse::<u32>()?;
-        let mut nodes = Vec::new(alloc);
-        for word in words {
-            nodes.push(word.parse::<NodeWord>()?.0)?;
-        }
+        let (width, count) = head(&mut words).context("no width and number of values")?;
         Ok(Section {
             line,
             width,
-            nodes,
+            nodes: nodes_of(alloc, words)?,
             values: (0..count).collect(alloc)?,
             asked: Vec::new(alloc),
         })
@@ -45,4 +41,18 @@ impl Section {
     pub(crate) fn push(&mut self, line: u64, question: Question) -> Result<(), AllocError> {
         Ok(self.asked.push(Asked { line, question })?)
     }
+}
+
+fn head(words: &mut SplitAsciiWhitespace<'_>) -> Option<(Width, u32)> {
+    let width = words.next()?.parse::<Width>().ok()?;
+    Some((width, words.next()?.parse::<u32>().ok()?))
+}
+
+// The nodes that the words are.
+fn nodes_of(alloc: Global, words: SplitAsciiWhitespace<'_>) -> anyhow::Result<Vec<Node>> {
+    let mut nodes = Vec::new(alloc);
+    for word in words {
+        nodes.push(word.parse::<NodeWord>()?.0)?;
+    }
+    Ok(nodes)
 }

@@ -6,7 +6,7 @@ use nodes::error::ArchiveError;
 use nodes::node::Node;
 use std::fmt;
 use tables::compared::{Compared, add_one};
-use tables::row::{Row, place_of};
+use tables::row::{Row, position_of};
 use tables::width::Width;
 
 // The calls of the library. Those named after a span are made with one, the others of a block with a
@@ -75,6 +75,22 @@ impl Rows {
             Kind::Refused(_) => self.refused.bump(width),
         }
     }
+
+    fn print<W: fmt::Write>(&self, call: Call, f: &mut fmt::Formatter<W>) -> fmt::Result {
+        let (found, nothing) = call.kinds();
+        print_row(&self.found, call, found, f)?;
+        print_row(&self.nothing, call, nothing, f)?;
+        print_row(&self.refused, call, "refused", f)
+    }
+}
+
+fn print_row<W: fmt::Write>(
+    row: &Row,
+    call: Call,
+    answer: &str,
+    f: &mut fmt::Formatter<W>,
+) -> fmt::Result {
+    writeln!(f, "{row}  {call}, {answer}")
 }
 
 #[derive(Drop)]
@@ -113,7 +129,7 @@ impl Tally {
                 (ArchiveError::NoSuchPlace, Row::NONE),
             ],
             sections: 0,
-            queries: Compared::new(),
+            queries: Compared::NONE,
         }
     }
 
@@ -124,7 +140,7 @@ impl Tally {
 
     // An image that the library does not accept.
     pub(crate) fn count_refused_image(&mut self) {
-        self.queries.count_difference();
+        add_one(&mut self.queries.differ);
     }
 
     // Counts a call under the answer that the table has.
@@ -135,12 +151,18 @@ impl Tally {
     {
         self.queries.count(ours == theirs);
         let kind = theirs.kind();
-        if let Some(place) = place_of(&self.calls, &call) {
+        if let Some(place) = position_of(&self.calls, &call) {
             self.calls[place].1.bump(width, kind);
         }
-        if let Kind::Refused(Refusal(Ok(fault))) = kind
-            && let Some(place) = place_of(&self.faults, &fault)
-        {
+        if let Kind::Refused(Refusal(Ok(fault))) = kind {
+            self.count_fault(width, fault);
+        }
+    }
+
+    fn count_fault(&mut self, width: Width, fault: ArchiveError)
+        ensures { self.new.queries ≡ self.old.queries }
+    {
+        if let Some(place) = position_of(&self.faults, &fault) {
             self.faults[place].1.bump(width);
         }
     }
@@ -152,7 +174,7 @@ impl Tally {
         if let Ok(Some(entry)) = longest.0
             && let Some(row) = self
                 .depths
-                .get_mut((u32::from(entry.len) / Node::LEVELS) as usize)
+                .get_mut((u32::from(entry.len) / Node::STRIDE) as usize)
         {
             row.bump(width);
         }
@@ -164,21 +186,32 @@ impl fmt::Display for Tally {
         writeln!(f, "       8      16      32      64  bits")?;
         writeln!(f, "{}  images", self.images)?;
         for (call, rows) in &self.calls {
-            let (found, nothing) = call.kinds();
-            writeln!(f, "{}  {call}, {found}", rows.found)?;
-            writeln!(f, "{}  {call}, {nothing}", rows.nothing)?;
-            writeln!(f, "{}  {call}, refused", rows.refused)?;
+            rows.print(*call, f)?;
         }
-        for (row, depth) in self
-            .depths
-            .iter()
-            .zip((0u32..).step_by(Node::LEVELS as usize))
-        {
+        self.print_depths(f)?;
+        self.print_faults(f)?;
+        self.print_sums(f)
+    }
+}
+
+impl Tally {
+    fn print_depths<W: fmt::Write>(&self, f: &mut fmt::Formatter<W>) -> fmt::Result {
+        let mut depth = 0u32;
+        for row in &self.depths {
             writeln!(f, "{row}  longest match in a node at depth {depth}")?;
+            depth = depth.saturating_add(Node::STRIDE);
         }
+        Ok(())
+    }
+
+    fn print_faults<W: fmt::Write>(&self, f: &mut fmt::Formatter<W>) -> fmt::Result {
         for (fault, row) in &self.faults {
             writeln!(f, "{row}  refused with {}", fault.number())?;
         }
+        Ok(())
+    }
+
+    fn print_sums<W: fmt::Write>(&self, f: &mut fmt::Formatter<W>) -> fmt::Result {
         write!(
             f,
             "{} images, {} queries, {} differ",

@@ -12,8 +12,8 @@ use Rattle.aggregate.specs.Halves.{full_range, under_set}
 use lib.Pow.{shl-shr}
 use Rattle.std.proofs.Math.Pow.{shl_lt}
 use Rattle.std.proofs.lemmas.Nat.{one_shl}
-use Rattle.addresses.proofs.Levels.{level_split}
-use Rattle.addresses.specs.Standing.{level_of}
+use Rattle.addresses.proofs.Tiers.{tier_split}
+use Rattle.addresses.specs.Standing.{tier_of}
 use Rattle.aggregate.proofs.Bits.{mask_same}
 use Rattle.slots.specs.Masks.{mask, child_under}
 use Rattle.coverage.specs.Slots.{free_child, free_slot, in_slot, needs_child}
@@ -34,22 +34,22 @@ without_is x y h k =
 shl_bound : (l p : ℕ) → l ≤ 4 → p < 2 ^ l → p * 2 ^ (4 - l) < 2 ^ 4
 shl_bound l p h s = let e : l + (4 - l) ≡ 4 = omega arith in subst (λ (k : ℕ). p * 2 ^ (4 - l) < 2 ^ k) e (shl_lt l (4 - l) s)
 
-pub level_pow : (l : ℕ) → l ≤ 4 → 1 * 2 ^ l % 4294967296 ≡ 2 ^ l
-level_pow l h = one_shl l 32 (omega arith)
+pub tier_pow : (l : ℕ) → l ≤ 4 → 1 * 2 ^ l % 4294967296 ≡ 2 ^ l
+tier_pow l h = one_shl l 32 (omega arith)
 
--- the child slots of the level's mask are those of the slot
-pub range_is : (b l v : ℕ) → b < 31 → l ≡ level_of b → v ≡ (b + 1 - 1 * 2 ^ l % 4294967296) * 2 ^ (4 - l) % 4294967296 → mask (child_under (min l 4) (v % 16)) ≡ mask (in_slot b)
+-- the child slots of the tier's mask are those of the slot
+pub range_is : (b l v : ℕ) → b < 31 → l ≡ tier_of b → v ≡ (b + 1 - 1 * 2 ^ l % 4294967296) * 2 ^ (4 - l) % 4294967296 → mask (child_under (min l 4) (v % 16)) ≡ mask (in_slot b)
 unfolding child_under
 range_is b l v h e f =
-    let s = level_split b h in
-    let p : ℕ = b + 1 - 2 ^ level_of b in
-    let pow : 2 ^ level_of b ≤ 2 ^ 4 = pow_mono s.0 in
-    let small : p * 2 ^ (4 - level_of b) < 2 ^ 4 = shl_bound (level_of b) p s.0 (omega (arith, s.2)) in
-    let four : v % 16 ≡ p * 2 ^ (4 - level_of b) =
+    let s = tier_split b h in
+    let p : ℕ = b + 1 - 2 ^ tier_of b in
+    let pow : 2 ^ tier_of b ≤ 2 ^ 4 = pow_mono s.0 in
+    let small : p * 2 ^ (4 - tier_of b) < 2 ^ 4 = shl_bound (tier_of b) p s.0 (omega (arith, s.2)) in
+    let four : v % 16 ≡ p * 2 ^ (4 - tier_of b) =
     ap (λ x. x % 16) f ∙ (ap (λ k. (b + 1 - 1 * 2 ^ k % 4294967296) * 2 ^ (4 - k) % 4294967296 % 16) e
-    ∙ (ap (λ x. (b + 1 - x) * 2 ^ (4 - level_of b) % 4294967296 % 16) (level_pow (level_of b) s.0) ∙ omega arith)) in
-    let level : min l 4 ≡ level_of b = omega (arith, s.0, e) in
-    mask_same _ _ (λ c d. ap₂ (λ k x. eqb (c / 2 ^ (5 - k)) (x / 2 ^ (4 - k))) level four ∙ ap (λ x. eqb (c / 2 ^ (5 - level_of b)) x) (shl-shr p (4 - level_of b)))
+    ∙ (ap (λ x. (b + 1 - x) * 2 ^ (4 - tier_of b) % 4294967296 % 16) (tier_pow (tier_of b) s.0) ∙ omega arith)) in
+    let tier : min l 4 ≡ tier_of b = omega (arith, s.0, e) in
+    mask_same _ _ (λ c d. ap₂ (λ k x. eqb (c / 2 ^ (5 - k)) (x / 2 ^ (4 - k))) tier four ∙ ap (λ x. eqb (c / 2 ^ (5 - tier_of b)) x) (shl-shr p (4 - tier_of b)))
 
 pub free_is : (children range under b : ℕ) → children < 2 ^ 32 → under < 2 ^ 32 → range ≡ mask (in_slot b)
     → bit_and (bit_and children range) (4294967295 - under) ≡ mask (needs_child children under b)

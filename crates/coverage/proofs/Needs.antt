@@ -7,8 +7,8 @@ use Rattle.slots.proofs.Masks.{bit_mask}
 use Rattle.slots.specs.Masks.{mask}
 use Rattle.aggregate.proofs.Bits.{bit_bit_or}
 use Rattle.aggregate.proofs.Halves.{half, half_child, half_data}
-use Rattle.addresses.proofs.Levels.{level_split}
-use Rattle.addresses.specs.Standing.{level_of}
+use Rattle.addresses.proofs.Tiers.{tier_split}
+use Rattle.addresses.specs.Standing.{tier_of}
 use Rattle.coverage.specs.Slots.{Needs, in_slot, needs_child}
 use Rattle.aggregate.specs.Halves.{full_range, under_set}
 use Rattle.addresses.proofs.Halves.{half_halves, under_low, under_high}
@@ -103,13 +103,13 @@ needs_only ds cs dc (suc k) l p e s clear more t =
 -- what the code finds of data slot b
 module _ (ds children b : ℕ) (h : b < 31) (clear : under_set ds b ≡ false) where
   abbrev at : ℕ
-  at = level_of b
+  at = tier_of b
 
   abbrev path : ℕ
-  path = b + 1 - 2 ^ level_of b
+  path = b + 1 - 2 ^ tier_of b
 
   split : (at ≤ 4) × (2 ^ at ≤ b + 1) × (b + 1 < 2 * 2 ^ at)
-  split = level_split b h
+  split = tier_split b h
 
   is_slot : number at path ≡ b
   is_slot = omega (arith, split, pow_pos at)

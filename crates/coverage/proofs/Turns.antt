@@ -1,22 +1,18 @@
 -- A turn of a loop over the set bits: the lowest is taken, and the sum over the others is left.
-use Rattle.std.proofs.Common.{◌≡◌, ℕ, ◌+◌, ◌-◌, ◌*◌, ◌%◌, ◌^◌, ◌<◌, ◌≤◌, Bool, true, false, ◌&&◌, cond, not, T, eqb, Some, sym, refl, ap, ◌∙◌, subst, inl, inr, arith, pow_mono, pow_pos}
+use Rattle.std.proofs.Common.{◌≡◌, ℕ, ◌+◌, ◌-◌, ◌*◌, ◌%◌, ◌^◌, ◌<◌, ◌≤◌, Bool, true, false, ◌&&◌, cond, not, T, sym, refl, ap, ◌∙◌, subst, inl, inr, arith, pow_mono}
 use Rattle.std.proofs.lemmas.Bool.{cond-true, cond-false, eq-eqb, ne_eqb, and_right, cases_lt}
 use Rattle.std.proofs.lemmas.Nat.{one_shl}
-use Rattle.addresses.specs.Standing.{level_of}
+use Rattle.addresses.specs.Standing.{tier_of}
 use Rattle.nodes.specs.Bitmaps.{bit}
 use Rattle.register.proofs.Under.{T_true}
-use Rattle.slots.proofs.Bits.{bit_end, bit_past}
-use Rattle.slots.specs.Picks.{IsLowest}
+use Rattle.slots.proofs.Bits.{bit_past}
+use Rattle.aggregate.proofs.Lowest.{Split}
 use Rattle.addresses.proofs.Sums.{sum_apart, sum_most, sum_nothing}
 use Rattle.addresses.specs.Sums.{bit_sum}
 
 pub and_true : (t : Bool) → (t && true) ≡ t
 and_true true = refl
 and_true false = refl
-
--- the bits of a bitmap, with the lowest set one split off
-abbrev pub Split : ℕ → ℕ → ℕ → Type 0
-Split bits b others = IsLowest 32 (bit bits) (Some b) × ((c : ℕ) → bit others c ≡ (bit bits c && not (eqb c b)))
 
 module _ (bits b others : ℕ) (s : Split bits b others) where
   other : (c : ℕ) → (c ≡ b → ⊥) → bit bits c ≡ bit others c
@@ -48,9 +44,9 @@ module _ (bits b others : ℕ) (s : Split bits b others) where
         | inr g ↦ (let p : 2 ^ k ≤ 2 ^ b = pow_mono g in absurd (bit_past bits b (omega (arith, p)) s.0.1))
       ]
 
-pub sum_none : (g : ℕ → ℕ) → bit_sum 0 g ≡ 0
+pub sum_none : (m : ℕ) (g : ℕ → ℕ) → ((c : ℕ) → c < 32 → bit m c ≡ false) → bit_sum m g ≡ 0
 unfolding bit_sum
-sum_none g = sum_nothing 32 (λ c. cond (bit 0 c) (g c) 0) (λ c l. cond-false (bit 0 c) (g c) 0 (bit_end 0 c (pow_pos c)))
+sum_none m g h = sum_nothing 32 (λ c. cond (bit m c) (g c) 0) (λ c l. cond-false (bit m c) (g c) 0 (h c l))
 
 pub sum_bound : (m k : ℕ) (g : ℕ → ℕ) → ((b : ℕ) → g b ≤ k) → bit_sum m g ≤ 32 * k
 unfolding bit_sum
@@ -61,5 +57,5 @@ sum_bound m k g h = sum_most 32 k (λ c. cond (bit m c) (g c) 0) (λ c l. by (bi
     by false c = omega arith
 
 -- the addresses of a slot as the code has them
-pub slot_taken : (rest slot level amount : ℕ) → rest ≤ 64 → amount ≡ rest - level → level ≡ level_of slot → 1 * 2 ^ amount % 2 ^ 128 ≡ 2 ^ (rest - level_of slot)
-slot_taken rest slot level amount h f e = one_shl amount 128 (omega arith) ∙ ap (λ (k : ℕ). 2 ^ k) (f ∙ ap (λ (l : ℕ). rest - l) e)
+pub slot_taken : (rest slot tier amount : ℕ) → rest ≤ 64 → amount ≡ rest - tier → tier ≡ tier_of slot → 1 * 2 ^ amount % 2 ^ 128 ≡ 2 ^ (rest - tier_of slot)
+slot_taken rest slot tier amount h f e = one_shl amount 128 (omega arith) ∙ ap (λ (k : ℕ). 2 ^ k) (f ∙ ap (λ (l : ℕ). rest - l) e)

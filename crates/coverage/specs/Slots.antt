@@ -1,26 +1,26 @@
 -- What the descents find: the addresses of a block, and of a data slot of a node.
 use Rattle.std.specs.Prelude.{◌≡◌, ℕ, suc, ◌+◌, ◌-◌, ◌/◌, ◌^◌, ◌<◌, Bool, true, false, ◌&&◌, not, nat_lt, T, List, Some, None, Option, ◌==◌}
 use Rattle.addresses.specs.Sizes.{size}
-use Rattle.addresses.specs.Standing.{level_of}
+use Rattle.addresses.specs.Standing.{tier_of}
 use Rattle.aggregate.specs.Halves.{full_range, under_set}
-use Rattle.matches.specs.Way.{Ends, has}
-use Rattle.matches.specs.declared.cursor.Cursor.{Cursor}
+use Rattle.descent.specs.Way.{Ends, has}
+use Rattle.descent.specs.declared.cursor.Cursor.{Cursor}
 use Rattle.nodes.specs.Bitmaps.{bit}
 use Rattle.nodes.specs.declared.node.Node.{Node}
-use Rattle.register.specs.Register.{Spot}
+use Rattle.register.specs.Register.{Slot}
 use Rattle.slots.specs.Picks.{lowest}
 
 -- data slot b of the node at
-abbrev pub slot_spot : ℕ → ℕ → Spot
-slot_spot at b = record { node = at; level = level_of b; bits = b + 1 - 2 ^ level_of b }
+abbrev pub data_slot : ℕ → ℕ → Slot
+data_slot at b = record { node = at; tier = tier_of b; path = b + 1 - 2 ^ tier_of b }
 
 -- all addresses under it lie in entries at it or below, where the key has «rest» bits left at the node
 abbrev pub slot_covered : List Node → ℕ → ℕ → ℕ → Bool
-slot_covered ns at rest b = size (rest - level_of b) ns (Some (slot_spot at b)) == 2 ^ (rest - level_of b)
+slot_covered ns at rest b = size (rest - tier_of b) ns (Some (data_slot at b)) == 2 ^ (rest - tier_of b)
 
 -- child slot c lies in data slot b
 abbrev pub in_slot : ℕ → ℕ → Bool
-in_slot b c = c / 2 ^ (5 - level_of b) == b + 1 - 2 ^ level_of b
+in_slot b c = c / 2 ^ (5 - tier_of b) == b + 1 - 2 ^ tier_of b
 
 -- a set slot that is under no other, and a child that is under none
 abbrev pub free_slot : Node → ℕ → Bool
@@ -34,16 +34,16 @@ abbrev pub needs_child : ℕ → ℕ → ℕ → ℕ → Bool
 needs_child children under b c = (bit children c && in_slot b c) && not (bit under c)
 
 -- each bit of x is one of y
-abbrev pub Within : ℕ → ℕ → Type 0
-Within x y = (c : ℕ) → c < 32 → T (bit x c) → T (bit y c)
+abbrev pub BitsWithin : ℕ → ℕ → Type 0
+BitsWithin x y = (c : ℕ) → c < 32 → T (bit x c) → T (bit y c)
 
 -- the children that slot b needs covered to be covered, of those that are there: none if even all of them are not enough
 unfoldable pub Needs : ℕ → ℕ → ℕ → Option ℕ → Type 0
-Needs ds children b None = (cs : ℕ) → Within cs children → full_range ds cs b ≡ false
+Needs ds children b None = (cs : ℕ) → BitsWithin cs children → full_range ds cs b ≡ false
 Needs ds children b (Some needed) =
-    Within needed children
-    × ((cs : ℕ) → Within cs children → Within needed cs → full_range ds cs b ≡ true)
-    × ((cs : ℕ) → full_range ds cs b ≡ true → Within needed cs)
+    BitsWithin needed children
+    × ((cs : ℕ) → BitsWithin cs children → BitsWithin needed cs → full_range ds cs b ≡ true)
+    × ((cs : ℕ) → full_range ds cs b ≡ true → BitsWithin needed cs)
 
 -- the way ends in the cursor's node, and none of the key's first bits has a value
 abbrev pub Ended : Cursor → Type 0

@@ -10,15 +10,16 @@ ghost use Rattle.tree.specs.Levels.{node_at};
 
 use crate::masks::needed_children;
 use aggregate::ones::split_lowest;
-use matches::cursor::Cursor;
-use matches::query::Query;
+use descent::cursor::Cursor;
+use descent::sought::Search;
 use nodes::node::Node;
 use slots::key::data_bit;
 use slots::loc::child_loc;
 
-// Each address of the query's block: by an entry that contains the block, or by those inside it.
-#[tactic(auto, using(crate::proofs::Descents::hit_covers, crate::proofs::Descents::no_hit, crate::proofs::Descents::none_yet))]
-pub(crate) fn block_covered(query: &Query) -> bool
+// Whether each address of the query's block is matched: by an entry that contains the block, or by those inside it.
+#[tactic(auto, using(descent::proofs::Ways::way_on, crate::proofs::Descents::hit_covers, crate::proofs::Descents::none_yet))]
+#[inline(always)]
+pub(crate) fn block_covered(query: &Search) -> bool
     ensures { result ≡ covered query.now.key.width (block_of query.now.key.width query.now.key.bits query.now.len) (places query.now.key.width query.now.nodes.now) }
 {
     let mut cursor = query.start();
@@ -40,7 +41,7 @@ fn end_covered(cursor: &Cursor) -> bool
     ensures { result ≡ covered cursor.now.query.key.width (block_of cursor.now.query.key.width cursor.now.query.key.bits cursor.now.query.len) (places cursor.now.query.key.width cursor.now.query.nodes.now) }
 {
     let query = &cursor.query;
-    if cursor.depth + Node::LEVELS <= query.len {
+    if cursor.depth + Node::STRIDE <= query.len {
         return false;
     }
     let rest = query.key.width - cursor.depth;
@@ -63,7 +64,7 @@ fn bit_covered(nodes: &[Node], at: u32, rest: u32, slot: u32) -> bool
         let Some(loc) = child_loc(node, child) else {
             return false;
         };
-        if !bit_covered(nodes, loc.idx, rest - Node::LEVELS, 0) {
+        if !bit_covered(nodes, loc.idx, rest - Node::STRIDE, 0) {
             return false;
         }
         left = others;

@@ -1,11 +1,11 @@
 // How many addresses are matched.
 ghost use Rattle.std.specs.Prelude.{◌≡◌, ◌-◌, ◌^◌, ◌<◌, ◌≤◌, Some};
 ghost use Rattle.addresses.specs.Sizes.{size};
-ghost use Rattle.addresses.specs.Standing.{Standing, level_of};
+ghost use Rattle.addresses.specs.Standing.{Standing, tier_of};
 ghost use Rattle.addresses.specs.Sums.{bit_sum};
-ghost use Rattle.register.proofs.Spots.{top_of};
+ghost use Rattle.register.specs.Register.{node_slot};
 
-use crate::masks::{free_parts, level};
+use crate::masks::{free_parts, tier};
 use aggregate::ones::split_lowest;
 use nodes::node::Node;
 use slots::loc::child_loc;
@@ -14,7 +14,7 @@ use slots::loc::child_loc;
 // under no other, and those under its children that are under none.
 pub(crate) fn address_count_at(nodes: &[Node], at: u32, rest: u32) -> u128
     requires { Standing nodes.now at rest }
-    ensures { result ≡ size rest nodes.now (Some (top_of at)) }
+    ensures { result ≡ size rest nodes.now (Some (node_slot at)) }
 {
     let node = &nodes[at as usize];
     let (slots, children) = free_parts(node);
@@ -22,7 +22,7 @@ pub(crate) fn address_count_at(nodes: &[Node], at: u32, rest: u32) -> u128
     let mut left = children;
     while let Some((child, others)) = split_lowest(left) {
         if let Some(loc) = child_loc(node, child) {
-            count += address_count_at(nodes, loc.idx, rest - Node::LEVELS);
+            count += address_count_at(nodes, loc.idx, rest - Node::STRIDE);
         }
         left = others;
     }
@@ -33,7 +33,7 @@ pub(crate) fn address_count_at(nodes: &[Node], at: u32, rest: u32) -> u128
 fn slot_addresses(slots: u32, rest: u32) -> u128
     requires rest { rest ≤ 64 }
     requires slots { slots < 2 ^ 31 }
-    ensures { result ≡ bit_sum slots (λ b. 2 ^ (rest - level_of b)) }
+    ensures { result ≡ bit_sum slots (λ b. 2 ^ (rest - tier_of b)) }
 {
     let mut count = 0;
     let mut left = slots;
@@ -49,7 +49,7 @@ fn slot_addresses(slots: u32, rest: u32) -> u128
 fn addresses_in(slot: u32, rest: u32) -> u128
     requires rest { rest ≤ 64 }
     requires slot { slot < 31 }
-    ensures { result ≡ 2 ^ (rest - level_of slot) }
+    ensures { result ≡ 2 ^ (rest - tier_of slot) }
 {
-    1 << rest.saturating_sub(level(slot))
+    1 << rest.saturating_sub(tier(slot))
 }

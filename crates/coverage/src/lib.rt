@@ -1,18 +1,19 @@
-// Whether every address of a block is matched, and how many addresses are.
+// Whether every address of a block is matched, and how many addresses are: each answers what the
+// image's register says, at every width without losing a bit.
 #![tactic(auto)]
 
 ghost use Rattle.std.specs.Prelude.{◌≡◌, ◌^◌, ◌≤◌};
+ghost use Rattle.accept.specs.Images.{width_of};
 ghost use Rattle.addresses.specs.Addresses.{covered, matched_addresses};
 ghost use Rattle.addresses.specs.Laws.{AddressLaws};
-ghost use Rattle.coverage.specs.Counts.{address_count as matched_count, count_of, numbers};
-ghost use Rattle.keys.specs.Blocks.{block_of};
-ghost use Rattle.matches.specs.Asked.{asked, register_of};
-ghost use Rattle.nodes.specs.Faults.{answer};
+ghost use Rattle.coverage.specs.Counts.{address_count as matched_count, count_of};
+ghost use Rattle.requests.specs.Requests.{refusal, register_of, shown_block, unless_refused};
+ghost use Rattle.nodes.specs.Faults.{number, outcome};
 
 use accept::image::Image;
 use block::block_covered;
 use count::address_count_at;
-use matches::query::Query;
+use descent::sought::Search;
 use nodes::error::ArchiveError;
 use prefix::Prefix;
 
@@ -27,22 +28,23 @@ pub enum AddressCount {
     Whole,
 }
 
-// Whether each address of the query's block has a longest match.
-#[tactic(auto, using(crate::proofs::Images::cover_answer))]
+// Whether each address of the query's block is matched.
+#[tactic(auto, using(requests::proofs::Refusals::refused_too))]
+#[inline(always)]
 pub fn is_covered_in_aggregate<P: Prefix, T>(image: &Image<T>, q: &P) -> Result<bool, ArchiveError>
-    ensures block { answer result ≡ asked image.now.width P.R.Key.width (P.Prefix.shown q.now) (covered image.now.width (block_of image.now.width (P.Prefix.raw q.now) (P.Prefix.shown q.now)) (register_of image.now)) }
-    ensures addresses { AddressLaws image.now.width (register_of image.now) }
+    ensures block { outcome number result ≡ unless_refused (refusal (width_of image.now) P.R.Key.width (P.Prefix.shown q.now)) (covered (width_of image.now) (shown_block (width_of image.now) P.Prefix.raw P.Prefix.shown q.now) (register_of image.now)) }
+    ensures addresses { AddressLaws (width_of image.now) (register_of image.now) }
     ensures same { (image.exit.now ≡ image.entry.now) × (q.exit.now ≡ q.entry.now) }
 {
-    let query = Query::new(image, q)?;
+    let query = Search::new(image, q)?;
     Ok(block_covered(&query))
 }
 
-// How many addresses of the whole key space have a longest match.
+// How many addresses of the whole key space are matched.
 #[tactic(auto, using(crate::proofs::Images::image_addresses))]
 pub fn address_count<T>(image: &Image<T>) -> AddressCount
-    ensures count { numbers result ≡ matched_count image.now.width (register_of image.now) }
-    ensures addresses { AddressLaws image.now.width (register_of image.now) }
+    ensures count { result ≡ matched_count (width_of image.now) (register_of image.now) }
+    ensures addresses { AddressLaws (width_of image.now) (register_of image.now) }
     ensures same { image.exit.now ≡ image.entry.now }
 {
     counted(matched_addresses(image), image.width())
@@ -50,9 +52,9 @@ pub fn address_count<T>(image: &Image<T>) -> AddressCount
 
 // As a number of 128 bits, which has room for all of 64.
 fn matched_addresses<T>(image: &Image<T>) -> u128
-    ensures matched { result ≡ matched_addresses image.now.width (register_of image.now) }
-    ensures most { result ≤ 2 ^ image.now.width }
-    ensures narrow { image.now.width ≤ 64 }
+    ensures matched { result ≡ matched_addresses (width_of image.now) (register_of image.now) }
+    ensures most { result ≤ 2 ^ (width_of image.now) }
+    ensures narrow { (width_of image.now) ≤ 64 }
 {
     address_count_at(image.nodes(), 0, image.width())
 }
@@ -62,7 +64,7 @@ fn matched_addresses<T>(image: &Image<T>) -> u128
 fn counted(matched: u128, width: u32) -> AddressCount
     requires most { matched ≤ 2 ^ width }
     requires narrow { width ≤ 64 }
-    ensures { numbers result ≡ count_of matched (2 ^ width) }
+    ensures { result ≡ count_of matched (2 ^ width) }
 {
     if matched == 1 << width {
         AddressCount::Whole

@@ -1,6 +1,6 @@
 // Which children of a node the addresses of its data slots are left to.
 ghost use Rattle.std.specs.Prelude.{◌≡◌, ◌+◌, ◌^◌, ◌<◌, ◌≤◌, ◌&&◌, not, false, bit_or};
-ghost use Rattle.addresses.specs.Standing.{level_of};
+ghost use Rattle.addresses.specs.Standing.{tier_of};
 ghost use Rattle.aggregate.specs.Halves.{full_range, under_set};
 ghost use Rattle.coverage.specs.Slots.{Needs, free_child, free_slot, in_slot, needs_child};
 ghost use Rattle.nodes.specs.Bitmaps.{bit};
@@ -11,11 +11,11 @@ use nodes::node::Node;
 use slots::loc::has_bit;
 use slots::mask::Rule;
 
-// The level of a data slot.
-#[tactic(auto, using(addresses::proofs::Levels::level_log))]
-pub(crate) fn level(slot: u32) -> u32
+// The tier of a data slot.
+#[tactic(auto, using(addresses::proofs::Tiers::tier_log))]
+pub(crate) fn tier(slot: u32) -> u32
     requires { slot < 31 }
-    ensures level { result ≡ level_of slot }
+    ensures tier { result ≡ tier_of slot }
     ensures last { result ≤ 4 }
     ensures begins { 2 ^ result ≤ slot + 1 }
 {
@@ -23,14 +23,14 @@ pub(crate) fn level(slot: u32) -> u32
 }
 
 // The child slots that lie in a data slot.
-#[tactic(auto, using(crate::proofs::Bits::level_pow, crate::proofs::Bits::range_is))]
+#[tactic(auto, using(crate::proofs::Bits::tier_pow, crate::proofs::Bits::range_is))]
 fn child_range(slot: u32) -> u32
     requires { slot < 31 }
     ensures { result ≡ mask (in_slot slot) }
 {
-    let level = level(slot);
-    let path = slot + 1 - (1 << level);
-    Rule::ChildUnder.at(level, path << (Node::LEVELS - 1 - level))
+    let tier = tier(slot);
+    let path = slot + 1 - (1 << tier);
+    Rule::ChildUnder.at(tier, path << (Node::STRIDE - 1 - tier))
 }
 
 // The set slots of a node that are under no other, and its children that are under none.

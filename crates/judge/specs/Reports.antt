@@ -4,7 +4,7 @@ use Rattle.coverage.specs.declared.AddressCount.{AddressCount}
 use Rattle.coverage.specs.declared.AddressCount.TheVariants.{Number, Whole}
 use Rattle.judge.specs.declared.report.Report.{Report}
 
--- of all no number is told
+-- where all are covered, no number
 abbrev pub addresses_text : AddressCount → List ℕ
 addresses_text (Number n) = decimal n ++ codes " addresses covered"
 addresses_text Whole = codes "all addresses covered"

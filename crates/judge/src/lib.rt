@@ -1,7 +1,9 @@
-// A sheet's text, from its bytes to the verdict on the image in it.
+// From the bytes of a text to the verdict on the image in it: 15 where it is no sheet's, the image's
+// fault, or the sheet's head and how many addresses its image matches.
 #![tactic(auto)]
 
-ghost use Rattle.judge.specs.Judged.{Counted, Judged};
+ghost use Rattle.judge.specs.Judged.{CountsAccepted, JudgesSheet};
+ghost use Rattle.sheet.specs.Sheets.{WritingIsInjective};
 ghost use Rattle.std.specs.Prelude.{◌≡◌};
 
 use crate::report::Report;
@@ -20,16 +22,15 @@ pub mod report;
 
 // Accepts two lists under keys of this kind, and counts the addresses that their image matches.
 fn count_accepted<K: Key>(nodes: &[Node], values: &[u32]) -> Result<AddressCount, ArchiveError>
-    ensures { Counted K.Key.width nodes.now values.now result }
+    ensures { CountsAccepted K.Key.width nodes.now values.now result }
 {
     accept::<K, u32>(nodes, values)?;
     Ok(address_count(&Image::new::<K>(nodes, values)))
 }
 
-// The same of the lists of a sheet, under keys of its width. A width picks a type parameter, which
-// takes an arm for each.
+// The same of the lists of a sheet, under keys of its width.
 pub fn count_sheet(s: &Sheet) -> Result<AddressCount, ArchiveError>
-    ensures count { Counted s.now.width s.now.nodes.items s.now.values.items result }
+    ensures count { CountsAccepted s.now.width s.now.nodes.items s.now.values.items result }
     ensures same { s.exit.now ≡ s.entry.now }
 {
     let nodes = s.nodes.as_slice();
@@ -41,10 +42,12 @@ pub fn count_sheet(s: &Sheet) -> Result<AddressCount, ArchiveError>
     }
 }
 
-// The report on a sheet whose image is accepted, or why there is none.
+// The report on a sheet whose image is accepted, or why there is none. The clause `one` is a law of
+// texts: so no text has two answers but for want of memory.
 #[tactic(auto, using(crate::proofs::Images::accepted, crate::proofs::Images::faulty))]
 pub fn judge(heap: Global, text: &[u8]) -> Result<Report, ReadError>
-    ensures judged { Judged text.now result }
+    ensures judged { JudgesSheet text.now result }
+    ensures one { WritingIsInjective }
     ensures same { text.exit.now ≡ text.entry.now }
 {
     let s = read(heap, text)?;

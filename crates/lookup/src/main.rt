@@ -44,7 +44,7 @@ fn run<K: Key + Drop>(rt: &HostRuntime, input: &Input) -> io::Result<()> {
     }
 }
 
-// A width picks a type parameter, which takes an arm for each.
+// A sheet's keys have 8, 16 or 32 bits.
 fn main(rt: HostRuntime) -> io::Result<()> {
     let mut text = Vec::new(rt.alloc());
     rt.stdin().read_to_end(&mut text)?;

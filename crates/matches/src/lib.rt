@@ -1,94 +1,103 @@
-// Matches on an accepted image, and the value at a place.
+// Matches on an accepted image, and the value at a place: each answers what the image's register says.
 #![tactic(auto)]
 
-ghost use Rattle.std.specs.Prelude.{◌≡◌, ◌≤◌, IfSome};
+ghost use Rattle.std.specs.Prelude.{◌≡◌, ◌≤◌, IfOk, IfSome, slice_get};
+ghost use Rattle.accept.specs.Images.{nodes_of, values_of, width_of};
+ghost use Rattle.descent.specs.Way.{entry_of};
 ghost use Rattle.keys.specs.Blocks.{block_of};
-ghost use Rattle.matches.specs.Asked.{as_entry, asked, found, place_in, register_of, seen, value_at};
-ghost use Rattle.matches.specs.Way.{entry_of};
-ghost use Rattle.nodes.specs.Faults.{answer};
+ghost use Rattle.nodes.specs.Faults.{number, outcome};
 ghost use Rattle.register.specs.Entries.{exact, longest, shortest};
-ghost use Rattle.register.specs.Laws.{RegisterLaws};
+ghost use Rattle.register.specs.Laws.{MatchLaws, RegisterLaws};
+ghost use Rattle.requests.specs.Requests.{block_and_place, entry_place, outcome_map, refusal, register_of, shown_block, unless_refused, value_answer, value_of};
 ghost use Rattle.std.specs.Option.{option_map};
 
 use accept::image::Image;
-use found::Found;
+use descent::found::Found;
+use descent::sought::Search;
 use keys::Key;
 use keys::wide::Wide;
 use nodes::error::ArchiveError;
 use prefix::Prefix;
-use query::Query;
-
-pub mod cursor;
-mod find;
-mod found;
-pub mod query;
-
-// Each clause `same` says what memory holds after the call, which no type says.
 
 // The place of the entry with the query's block.
-#[tactic(auto, using(crate::proofs::Ends::exact_answer))]
+#[inline(always)]
+#[tactic(auto, using(requests::proofs::Refusals::refused_too, crate::proofs::Images::image_matches))]
 pub fn get<P: Prefix, T>(image: &Image<T>, q: &P) -> Result<Option<u32>, ArchiveError>
-    ensures entry { answer result ≡ asked image.now.width P.R.Key.width (P.Prefix.shown q.now) (place_in (exact (block_of image.now.width (P.Prefix.raw q.now) (P.Prefix.shown q.now)) (register_of image.now))) }
+    ensures entry { outcome number result ≡ unless_refused (refusal (width_of image.now) P.R.Key.width (P.Prefix.shown q.now)) (entry_place (exact (shown_block (width_of image.now) P.Prefix.raw P.Prefix.shown q.now) (register_of image.now))) }
+    ensures laws { MatchLaws (width_of image.now) (register_of image.now) }
     ensures same { (image.exit.now ≡ image.entry.now) × (q.exit.now ≡ q.entry.now) }
 {
-    let query = Query::new(image, q)?;
+    let query = Search::new(image, q)?;
     Ok(query.exact())
 }
 
-// This call and the next differ in the search that they call and in what it finds.
-
 // The longest entry that contains the query's block, as a prefix of the query's kind, and its place.
-#[tactic(auto, using(crate::proofs::Ends::longest_answer, crate::proofs::Ends::longest_within))]
+#[inline(always)]
+#[tactic(auto, using(requests::proofs::Refusals::refused_too, crate::proofs::Images::image_matches))]
 pub fn get_lpm<P: Prefix, T>(image: &Image<T>, q: &P) -> Result<Option<(P, u32)>, ArchiveError>
-    ensures entry { seen (option_map (as_entry image.now.width P.Prefix.raw P.Prefix.shown)) (answer result) ≡ asked image.now.width P.R.Key.width (P.Prefix.shown q.now) (found (longest image.now.width (block_of image.now.width (P.Prefix.raw q.now) (P.Prefix.shown q.now)) (register_of image.now))) }
+    ensures entry { outcome_map (option_map (λ x. (shown_block (width_of image.now) P.Prefix.raw P.Prefix.shown x.0, x.1))) (outcome number result) ≡ unless_refused (refusal (width_of image.now) P.R.Key.width (P.Prefix.shown q.now)) (block_and_place (longest (width_of image.now) (shown_block (width_of image.now) P.Prefix.raw P.Prefix.shown q.now) (register_of image.now))) }
+    ensures makes { IfOk result (λ found. IfSome found (λ x. P.Prefix.makes (shown_block (width_of image.now) P.Prefix.raw P.Prefix.shown x.0) x.0)) }
+    ensures laws { MatchLaws (width_of image.now) (register_of image.now) }
     ensures same { (image.exit.now ≡ image.entry.now) × (q.exit.now ≡ q.entry.now) }
 {
-    let query = Query::new(image, q)?;
+    let query = Search::new(image, q)?;
     Ok(made(q, query.longest()))
 }
 
 // The shortest entry that contains the query's block, as a prefix of the query's kind, and its place.
-#[tactic(auto, using(crate::proofs::Ends::shortest_answer, crate::proofs::Ends::shortest_within))]
+#[inline(always)]
+#[tactic(auto, using(requests::proofs::Refusals::refused_too, crate::proofs::Images::image_matches))]
 pub fn get_spm<P: Prefix, T>(image: &Image<T>, q: &P) -> Result<Option<(P, u32)>, ArchiveError>
-    ensures entry { seen (option_map (as_entry image.now.width P.Prefix.raw P.Prefix.shown)) (answer result) ≡ asked image.now.width P.R.Key.width (P.Prefix.shown q.now) (found (shortest image.now.width (block_of image.now.width (P.Prefix.raw q.now) (P.Prefix.shown q.now)) (register_of image.now))) }
+    ensures entry { outcome_map (option_map (λ x. (shown_block (width_of image.now) P.Prefix.raw P.Prefix.shown x.0, x.1))) (outcome number result) ≡ unless_refused (refusal (width_of image.now) P.R.Key.width (P.Prefix.shown q.now)) (block_and_place (shortest (width_of image.now) (shown_block (width_of image.now) P.Prefix.raw P.Prefix.shown q.now) (register_of image.now))) }
+    ensures makes { IfOk result (λ found. IfSome found (λ x. P.Prefix.makes (shown_block (width_of image.now) P.Prefix.raw P.Prefix.shown x.0) x.0)) }
+    ensures laws { MatchLaws (width_of image.now) (register_of image.now) }
     ensures same { (image.exit.now ≡ image.entry.now) × (q.exit.now ≡ q.entry.now) }
 {
-    let query = Query::new(image, q)?;
+    let query = Search::new(image, q)?;
     Ok(made(q, query.shortest()))
 }
 
-// What was found: a prefix of the query's kind, made of the key without its bits past the length, and its place.
+// What was found: the query cut to its length, and its place.
 fn made<P: Prefix>(q: &P, found: Option<Found>) -> Option<(P, u32)>
     requires { IfSome found (λ f. f.len ≤ P.R.Key.width) }
-    ensures { option_map (as_entry P.R.Key.width P.Prefix.raw P.Prefix.shown) result ≡ option_map (entry_of P.R.Key.width (P.Prefix.raw q.now)) found }
+    ensures block { option_map (λ x. (shown_block P.R.Key.width P.Prefix.raw P.Prefix.shown x.0, x.1)) result ≡ option_map (entry_of P.R.Key.width (P.Prefix.raw q.now)) found }
+    ensures makes { IfSome result (λ x. P.Prefix.makes (shown_block P.R.Key.width P.Prefix.raw P.Prefix.shown x.0) x.0) }
 {
     let Found { place, len } = found?;
+    Some((cut_to(q, len), place))
+}
+
+// A prefix of the query's kind, made of the block of the query's first bits, as many as the length.
+fn cut_to<P: Prefix>(q: &P, len: u32) -> P
+    requires { len ≤ P.R.Key.width }
+    ensures block { shown_block P.R.Key.width P.Prefix.raw P.Prefix.shown result ≡ block_of P.R.Key.width (P.Prefix.raw q.now) len }
+    ensures makes { P.Prefix.makes (shown_block P.R.Key.width P.Prefix.raw P.Prefix.shown result) result }
+{
     let address = Wide::of(q.repr()).cut(len);
-    Some((P::from_repr_len(P::R::narrow(address), len as u8), place))
+    P::from_repr_len(P::R::narrow(address), len as u8)
 }
 
 // The value at a place.
 pub fn value<'a, T>(image: &Image<'a, T>, place: u32) -> Result<&'a T, ArchiveError>
-    ensures value { seen (λ v. v.now) (answer result) ≡ value_at image.now.values.now place }
-    ensures register { RegisterLaws image.now.width image.now.nodes.now image.now.values.now }
+    ensures value { outcome_map (λ v. v.now) (outcome number result) ≡ value_answer (value_of image.now place) }
+    ensures register { RegisterLaws (width_of image.now) (nodes_of image.now) (values_of image.now) }
     ensures same { image.exit.now ≡ image.entry.now }
 {
-    value_in(values_of(image), place)
+    value_in(register_values(image), place)
 }
 
 // The lent values, which the register of the image has.
-#[tactic(auto, using(crate::proofs::Lists::image_laws))]
-fn values_of<'a, T>(image: &Image<'a, T>) -> &'a [T]
-    ensures lent { result.now ≡ image.now.values.now }
-    ensures register { RegisterLaws image.now.width image.now.nodes.now image.now.values.now }
+fn register_values<'a, T>(image: &Image<'a, T>) -> &'a [T]
+    ensures lent { result.now ≡ values_of image.now }
+    ensures register { RegisterLaws (width_of image.now) (nodes_of image.now) (values_of image.now) }
 {
     image.values()
 }
 
 // The value at a place of the list.
-#[tactic(auto, using(crate::proofs::Lists::got_value))]
+#[tactic(auto, using(crate::proofs::Images::got_value))]
 fn value_in<T>(values: &[T], place: u32) -> Result<&T, ArchiveError>
-    ensures { seen (λ v. v.now) (answer result) ≡ value_at values.now place }
+    ensures { outcome_map (λ v. v.now) (outcome number result) ≡ value_answer (slice_get values.now place) }
 {
     values.get(place as usize).ok_or(ArchiveError::NoSuchPlace)
 }

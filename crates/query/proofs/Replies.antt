@@ -1,19 +1,17 @@
 -- The entry that a search found is the register's, with the value at its place.
-use Rattle.std.proofs.Common.{◌≡◌, ℕ, ◌%◌, ◌^◌, ◌<◌, ◌≤◌, min, Bool, true, false, cond, eqb, leb, ltb, List, [], ◌∷◌, Some, None, Option, sym, refl, ap, ◌∙◌, ⊎_elim, arith}
-use mathlib.Core.List.{Memᴰ}
-use Rattle.std.proofs.lemmas.Bool.{and_parts, cases_Bool, cases_lt, cond-false, cond-true, eqb-true, lt-leb, ltb-true}
+use Rattle.std.proofs.Common.{◌≡◌, ℕ, ◌%◌, ◌^◌, ◌<◌, ◌≤◌, min, Bool, true, false, cond, eqb, leb, ltb, Some, None, Option, sym, refl, ap, ◌∙◌, ⊎_elim, arith}
+use Rattle.std.proofs.lemmas.Bool.{and_parts, cases_Bool, cases_lt, cond-false, eqb-true, lt-leb, ltb-true}
+use Rattle.std.specs.Option.{option_map}
 use native.Mathlib.Nat.{mod-eq_of_lt}
+use Rattle.accept.specs.Images.{nodes_of, values_of, width_of}
 use Rattle.accept.specs.declared.image.Image.{Image}
-use Rattle.keys.specs.Blocks.{Block, block_of, contains, cut}
-use Rattle.matches.specs.Asked.{asked, found, refusal, register_of, unless, value_at}
-use Rattle.matches.proofs.Lists.{value_in}
-use Rattle.nodes.specs.Faults.{Answer, given, refused}
-use Rattle.nodes.specs.declared.node.Node.{Node}
-use Rattle.register.specs.Entries.{Entry, Held, covering, last_element, longest}
-use Rattle.register.specs.Laws.{RegisterLaws}
-use Rattle.register.specs.Register.{register}
-use Rattle.register.proofs.Kept.{keep_mem}
-use Rattle.query.specs.Replies.{belongs, entry_of, length_of, reply_to}
+use Rattle.keys.specs.Blocks.{Block, block_of}
+use Rattle.requests.proofs.Refusals.{apart}
+use Rattle.requests.specs.Requests.{block_and_place, refusal, register_of, unless_refused, value_answer, value_of}
+use Rattle.nodes.specs.Faults.{Outcome, given, refused}
+use Rattle.register.specs.Entries.{Entry, Held, longest}
+use Rattle.register.specs.Laws.{MatchLaws, RegisterLaws}
+use Rattle.query.specs.Replies.{belongs, match_of, query_len, query_outcome}
 use Rattle.query.specs.declared.address.Style.{Style}
 use Rattle.query.specs.declared.address.Style.TheVariants.{Number, Quad}
 use Rattle.query.specs.declared.query.Query.{Query}
@@ -25,25 +23,23 @@ pub narrowed : (w k : ℕ) (st : Style) → belongs w st k ≡ true → (belongs
 narrowed w k Number e = (e, mod-eq_of_lt (ltb-true k (2 ^ w) e))
 narrowed w k Quad e = (e, mod-eq_of_lt (ltb-true k (2 ^ w) (and_parts (ltb k (2 ^ w)) (eqb w 32) e).0))
 
-same_refusal : {A : Type 0} (b : Bool) (x y : A) → unless (cond b (Some 12) (Some 13)) x ≡ unless (cond b (Some 12) (Some 13)) y
+same_refusal : {A : Type 0} (b : Bool) (x y : A) → unless_refused (cond b (Some 12) (Some 13)) x ≡ unless_refused (cond b (Some 12) (Some 13)) y
 same_refusal true x y = refl
 same_refusal false x y = refl
 
 -- a length past 255 is refused as 255 is
-asked_short : {A : Type 0} (iw w n : ℕ) (f : ℕ → A) → iw ≤ 64 → asked iw w (min n 255 % 2 ^ 8) (f (min n 255 % 2 ^ 8)) ≡ asked iw w n (f n)
-asked_short iw w n f h =
+len_capped : {A : Type 0} (iw w n : ℕ) (f : ℕ → A) → iw ≤ 64
+    → unless_refused (refusal iw w (min n 255 % 2 ^ 8)) (f (min n 255 % 2 ^ 8)) ≡ unless_refused (refusal iw w n) (f n)
+len_capped iw w n f h =
     ⊎_elim
-    (λ (k : n < 256). let same : min n 255 % 2 ^ 8 ≡ n = omega arith in ap (λ (m : ℕ). asked iw w m (f m)) same)
+    (λ (k : n < 256). let same : min n 255 % 2 ^ 8 ≡ n = omega arith in ap (λ (m : ℕ). unless_refused (refusal iw w m) (f m)) same)
     (λ (k : 256 ≤ n).
     let short : leb (min n 255 % 2 ^ 8) iw ≡ false = lt-leb (min n 255 % 2 ^ 8) iw (omega arith) in
     let long : leb n iw ≡ false = lt-leb n iw (omega arith) in
-    ap (λ (b : Bool). unless (cond (eqb w iw) (cond b None (Some 12)) (Some 13)) (f (min n 255 % 2 ^ 8))) short
+    ap (λ (b : Bool). unless_refused (cond (eqb w iw) (cond b None (Some 12)) (Some 13)) (f (min n 255 % 2 ^ 8))) short
     ∙ same_refusal (eqb w iw) (f (min n 255 % 2 ^ 8)) (f n)
-    ∙ ap (λ (b : Bool). unless (cond (eqb w iw) (cond b None (Some 12)) (Some 13)) (f n)) (sym long))
+    ∙ ap (λ (b : Bool). unless_refused (cond (eqb w iw) (cond b None (Some 12)) (Some 13)) (f n)) (sym long))
     (cases_lt n 256)
-
-apart : {A : Type 0} (x : A) (k : ℕ) → given x ≡ refused k → ⊥
-apart x k e = let z : ◌≡◌ {A = ℕ} 0 1 = cc in omega arith
 
 given_one : {A : Type 0} (x y : A) → given x ≡ given y → x ≡ y
 given_one x y e = cc
@@ -55,109 +51,83 @@ not_refused : (iw w n : ℕ) → refusal iw w n ≡ None → w ≡ iw
 not_refused iw w n e =
     ⊎_elim (λ t. eqb-true w iw t) (λ t. absurd (none_some {A = ℕ} 13 (sym e ∙ cond-false (eqb w iw) _ _ t))) (cases_Bool (eqb w iw))
 
-unless_refused : {A B : Type 0} (r : Option ℕ) (x : A) (y : B) (k : ℕ) → refused k ≡ unless r x → refused k ≡ unless r y
-unless_refused None x y k e = absurd (apart x k (sym e))
-unless_refused (Some j) x y k e = let same : k ≡ j = cc in ap refused same
-
-unless_given : {A : Type 0} (r : Option ℕ) (x y : A) → given x ≡ unless r y → (r ≡ None) × (x ≡ y)
+unless_given : {A : Type 0} (r : Option ℕ) (x y : A) → given x ≡ unless_refused r y → (r ≡ None) × (x ≡ y)
 unless_given None x y e = (refl, cc)
 unless_given (Some j) x y e = absurd (apart x j e)
 
-last_mem : {A : Type 0} (xs : List A) (x : A) → last_element xs ≡ Some x → Memᴰ x xs
-last_mem [] x e = absurd (none_some x e)
-last_mem (y ∷ []) x e = let same : x ≡ y = cc in Memᴰ.head same
-last_mem (y ∷ (z ∷ xs)) x e = Memᴰ.tail (last_mem (z ∷ xs) x e)
+-- an answer at the image's width is one at the query's, since it is refused where they differ
+same_width : {A : Type 0} (iw w n : ℕ) (f : ℕ → A) → unless_refused (refusal iw w n) (f iw) ≡ unless_refused (refusal iw w n) (f w)
+same_width iw w n f =
+    ⊎_elim
+    (λ t. ap (λ (v : ℕ). unless_refused (refusal iw w n) (f v)) (sym (eqb-true w iw t)))
+    (λ t. ap (λ (r : Option ℕ). unless_refused r (f iw)) (cond-false (eqb w iw) (cond (leb n iw) None (Some 12)) (Some 13) t)
+    ∙ ap (λ (r : Option ℕ). unless_refused r (f w)) (sym (cond-false (eqb w iw) (cond (leb n iw) None (Some 12)) (Some 13) t)))
+    (cases_Bool (eqb w iw))
 
-make_block : ℕ → ℕ → Block
-make_block a l = record { address = a; len = l }
+make_match : Style → ℕ → ℕ → ℕ → Site → Match
+make_match s k l p v = record { address = record { style = s; key = k }; len = l; place = p; site = v }
 
-same_block : (a b l k : ℕ) → a ≡ b → l ≡ k → ◌≡◌ {A = Block} (record { address = a; len = l }) (record { address = b; len = k })
-unfolding make_block
-same_block a b l k e f = let same : make_block a l ≡ make_block b k = ap (λ (x : ℕ). make_block x l) e ∙ ap (make_block b) f in same
+match_is : (x : Match) → make_match x.address.style x.address.key x.len x.place x.site ≡ x
+unfolding make_match
+match_is x = refl
 
-module _ {A : Type 0} where
-  none_found : (o : Option (Entry (Held A))) → None ≡ found o → None ≡ o
-  none_found None e = refl
-  none_found (Some x) e = absurd (none_some _ e)
-
-  make_entry : ℕ → ℕ → ℕ → A → Entry (Held A)
-  make_entry a l p v = record { block = record { address = a; len = l }; item = record { place = p; value = v } }
-
-  entry_is : (e : Entry (Held A)) → make_entry e.block.address e.block.len e.item.place e.item.value ≡ e
-  unfolding make_entry
-  entry_is e = refl
-
-  same_entry : (d e : Entry (Held A)) → d.block ≡ e.block → d.item.place ≡ e.item.place → d.item.value ≡ e.item.value → d ≡ e
-  same_entry d e b p v =
-      let a : d.block.address ≡ e.block.address = ap (λ (x : Block). x.address) b in
-      let l : d.block.len ≡ e.block.len = ap (λ (x : Block). x.len) b in
-      cc (entry_is d, entry_is e)
-
-  module _ (w : ℕ) (ns : List Node) (vs : List A) (laws : RegisterLaws w ns vs) (q : Block) where
-    holds : (e : Entry (Held A)) → longest w q (register w ns vs) ≡ Some e → value_at vs e.item.place ≡ given e.item.value
-    holds e h =
-        let there = (keep_mem (λ x. contains w x.block q) e (register w ns vs) (last_mem (covering w q (register w ns vs)) e h)).0 in
-        let at = (laws.placed e there).1 in
-        value_in vs e.item.place e.item.value at.0 ∙ ap given at.1
-
-    held_by : (o : Option (Entry (Held A))) → longest w q (register w ns vs) ≡ o → (b : Block) (p : ℕ) → Some (b, p) ≡ found o
-        → (e : Entry (Held A)) × (o ≡ Some e) × (e.block ≡ b) × (e.item.place ≡ p) × (value_at vs p ≡ given e.item.value)
-    held_by None h b p e = absurd (none_some (b, p) (sym e))
-    held_by (Some x) h b p e =
-        let pair : ◌≡◌ {A = Block × ℕ} (x.block, x.item.place) (b, p) = cc in
-        let place = ap (λ (t : Block × ℕ). t.1) pair in
-        (x, refl, ap (λ (t : Block × ℕ). t.0) pair, place, ap (value_at vs) (sym place) ∙ holds x h)
+match_of_is : (s : Style) (e : Entry (Held Site)) → make_match s e.block.address e.block.len e.item.place e.item.value ≡ match_of s e
+unfolding make_match
+match_of_is s e = refl
 
 -- the query q on the image i, whose search went for the key k and the length m
-module _ (i : Image Site) (w : ℕ) (q : Query) (k m : ℕ)
-    (fit : belongs w q.address.style q.address.key ≡ true) (key : k ≡ q.address.key) (len : m ≡ min (length_of w q.len) 255) where
+module _ (i : Image Site) (w : ℕ) (q : Query) (k m : ℕ) (key : k ≡ q.address.key) (len : m ≡ min (query_len w q) 255) where
   abbrev wanted : ℕ → Option (Entry (Held Site))
-  wanted n = longest i.width (block_of i.width q.address.key n) (register_of i)
+  wanted n = longest (width_of i) (block_of (width_of i) q.address.key n) (register_of i)
 
-  abbrev refused_by : Option ℕ
-  refused_by = refusal i.width w (length_of w q.len)
+  abbrev pub refused_by : Option ℕ
+  refused_by = refusal (width_of i) w (query_len w q)
 
-  abbrev pub searched : Answer (Option (Block × ℕ))
-  searched = asked i.width w (m % 2 ^ 8) (found (longest i.width (block_of i.width k (m % 2 ^ 8)) (register_of i)))
+  abbrev pub searched : Outcome (Option (Block × ℕ))
+  searched =
+      unless_refused (refusal (width_of i) w (m % 2 ^ 8))
+      (block_and_place (longest (width_of i) (block_of (width_of i) k (m % 2 ^ 8)) (register_of i)))
 
-  searched_is : searched ≡ unless refused_by (found (wanted (length_of w q.len)))
+  searched_is : searched ≡ unless_refused refused_by (block_and_place (wanted (query_len w q)))
   searched_is =
-      ap (λ (a : ℕ). asked i.width w (m % 2 ^ 8) (found (longest i.width (block_of i.width a (m % 2 ^ 8)) (register_of i)))) key
-      ∙ ap (λ (n : ℕ). asked i.width w (n % 2 ^ 8) (found (wanted (n % 2 ^ 8)))) len
-      ∙ asked_short i.width w (length_of w q.len) (λ n. found (wanted n)) i.narrow
+      ap (λ (a : ℕ). unless_refused (refusal (width_of i) w (m % 2 ^ 8)) (block_and_place (longest (width_of i) (block_of (width_of i) a (m % 2 ^ 8)) (register_of i)))) key
+      ∙ ap (λ (n : ℕ). unless_refused (refusal (width_of i) w (n % 2 ^ 8)) (block_and_place (wanted (n % 2 ^ 8)))) len
+      ∙ len_capped (width_of i) w (query_len w q) (λ n. block_and_place (wanted n)) i.narrow
 
-  reply_is : reply_to w i q ≡ unless refused_by (wanted (length_of w q.len))
-  reply_is = cond-true (belongs w q.address.style q.address.key) _ (refused 15) fit
+  outcome_is : query_outcome w i q ≡ unless_refused refused_by (option_map (match_of q.address.style) (wanted (query_len w q)))
+  outcome_is =
+      sym (same_width (width_of i) w (query_len w q)
+      (λ v. option_map (match_of q.address.style) (longest (width_of i) (block_of v q.address.key (query_len w q)) (register_of i))))
 
-  pub refused_reply : (e : ℕ) → refused e ≡ searched → refused e ≡ reply_to w i q
-  refused_reply e h = unless_refused refused_by _ (wanted (length_of w q.len)) e (h ∙ searched_is) ∙ sym reply_is
+  -- the block b at the place p, which the search found
+  module _ (laws : RegisterLaws (width_of i) (nodes_of i) (values_of i)) (matches : MatchLaws (width_of i) (register_of i)) (b : Block) (p : ℕ)
+      (h : given (Some (b, p)) ≡ searched) where
+    u : (refused_by ≡ None) × (Some (b, p) ≡ block_and_place (wanted (query_len w q)))
+    u = unless_given refused_by (Some (b, p)) (block_and_place (wanted (query_len w q))) (h ∙ searched_is)
 
-  pub no_reply : given None ≡ searched → given None ≡ reply_to w i q
-  no_reply h =
-      let u = unless_given refused_by None (found (wanted (length_of w q.len))) (h ∙ searched_is) in
-      ap given (none_found (wanted (length_of w q.len)) u.1)
-      ∙ ap (λ (r : Option ℕ). unless r (wanted (length_of w q.len))) (sym u.0) ∙ sym reply_is
+    held : (e : Entry (Held Site)) × (wanted (query_len w q) ≡ Some e) × (e.block ≡ b) × (e.item.place ≡ p) × (value_of i p ≡ Some e.item.value)
+    held = by (wanted (query_len w q)) refl u.1
+      where
+        by : (o : Option (Entry (Held Site))) → wanted (query_len w q) ≡ o → Some (b, p) ≡ block_and_place o
+            → (e : Entry (Held Site)) × (o ≡ Some e) × (e.block ≡ b) × (e.item.place ≡ p) × (value_of i p ≡ Some e.item.value)
+        by None g d = absurd (none_some (b, p) (sym d))
+        by (Some x) g d =
+            let pair : ◌≡◌ {A = Block × ℕ} (x.block, x.item.place) (b, p) = cc in
+            let place = ap (λ (t : Block × ℕ). t.1) pair in
+            let there = ((matches.longest_entry (block_of (width_of i) q.address.key (query_len w q)) x).0 g).0 in
+            (x, refl, ap (λ (t : Block × ℕ). t.0) pair, place, ap (value_of i) (sym place) ∙ (laws.placed x there).1)
 
-  module _ (laws : RegisterLaws i.width i.nodes.now i.values.now) (raw n p : ℕ) (h : given (Some (block_of i.width raw n, p)) ≡ searched) where
-    u : (refused_by ≡ None) × (Some (block_of i.width raw n, p) ≡ found (wanted (length_of w q.len)))
-    u = unless_given refused_by (Some (block_of i.width raw n, p)) (found (wanted (length_of w q.len))) (h ∙ searched_is)
+    pub never_past : (e : ℕ) → refused e ≡ value_answer (value_of i p) → ⊥
+    never_past e t = apart held.0.item.value e (sym (ap value_answer held.4) ∙ sym t)
 
-    held : (e : Entry (Held Site)) × (wanted (length_of w q.len) ≡ Some e) × (e.block ≡ block_of i.width raw n) × (e.item.place ≡ p)
-        × (value_at i.values.now p ≡ given e.item.value)
-    held =
-        held_by i.width i.nodes.now i.values.now laws (block_of i.width q.address.key (length_of w q.len))
-        (wanted (length_of w q.len)) refl (block_of i.width raw n) p u.1
-
-    pub never_past : (e : ℕ) → refused e ≡ value_at i.values.now p → ⊥
-    never_past e k = apart held.0.item.value e (sym held.4 ∙ sym k)
-
-    pub found_reply : (x : Match) → given x.site ≡ value_at i.values.now p → x.address.key ≡ cut w n raw → x.len ≡ n → x.place ≡ p
-        → given (Some (entry_of x)) ≡ reply_to w i q
-    found_reply x v a l o =
-        let width : w ≡ i.width = not_refused i.width w (length_of w q.len) u.0 in
-        let block : (entry_of x).block ≡ held.0.block =
-        same_block x.address.key (cut i.width n raw) x.len n (a ∙ ap (λ (j : ℕ). cut j n raw) width) l ∙ sym held.2 in
-        let value : x.site ≡ held.0.item.value = given_one x.site held.0.item.value (v ∙ held.4) in
-        let same : entry_of x ≡ held.0 = same_entry (entry_of x) held.0 block (o ∙ sym held.3) value in
-        ap (λ (e : Entry (Held Site)). given (Some e)) same ∙ ap given (sym held.1)
-        ∙ ap (λ (r : Option ℕ). unless r (wanted (length_of w q.len))) (sym u.0) ∙ sym reply_is
+    pub found_outcome : (x : Match) → x.address.style ≡ q.address.style → x.address.key ≡ b.address → x.len ≡ b.len → x.place ≡ p
+        → given x.site ≡ value_answer (value_of i p) → given (Some x) ≡ query_outcome w i q
+    found_outcome x s a l o v =
+        let address : x.address.key ≡ held.0.block.address = a ∙ ap (λ (c : Block). c.address) (sym held.2) in
+        let length : x.len ≡ held.0.block.len = l ∙ ap (λ (c : Block). c.len) (sym held.2) in
+        let place : x.place ≡ held.0.item.place = o ∙ sym held.3 in
+        let value : x.site ≡ held.0.item.value = given_one x.site held.0.item.value (v ∙ ap value_answer held.4) in
+        let same : x ≡ match_of q.address.style held.0 = cc (match_is x, match_of_is q.address.style held.0) in
+        ap (λ (y : Match). given (Some y)) same
+        ∙ ap (λ (y : Option (Entry (Held Site))). given (option_map (match_of q.address.style) y)) (sym held.1)
+        ∙ ap (λ (r : Option ℕ). unless_refused r (option_map (match_of q.address.style) (wanted (query_len w q)))) (sym u.0) ∙ sym outcome_is

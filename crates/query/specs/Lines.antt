@@ -1,17 +1,15 @@
--- The lines of a text.
-use Rattle.std.specs.Prelude.{◌≡◌, ℕ, ◌<◌, ◌⊎◌, List, [], ◌∷◌, ◌++◌, length, Some, None, Option, ◌≢◌}
+-- The lines of a text: each stands before a byte 10, and the last one may lack it.
+use Rattle.std.specs.Prelude.{◌≡◌, ℕ, ◌<◌, List, [], length, Some, None, Option}
 use Rattle.std.specs.Borrow.{Bor}
-use Rattle.std.specs.List.{AllByRecursion}
+use Rattle.std.specs.Char.{is_newline}
+use Rattle.std.specs.List.{after_first, before_first}
+use Rattle.query.specs.declared.lines.Lines.{Lines}
 
--- no byte of the text is c
-abbrev pub Free : ℕ → List ℕ → Type 0
-Free c s = AllByRecursion (λ b. b ≢ c) s
+-- the text whose lines are still to come
+abbrev pub text_left : Lines → List ℕ
+text_left l = l.rest.now
 
--- the first line of s, without byte 10, and what follows it; only a last line lacks that byte
-unfoldable pub First : List ℕ → List ℕ → List ℕ → Type 0
-First s line rest = Free 10 line × ((s ≡ line ++ (10 ∷ rest)) ⊎ ((s ≡ line) × (rest ≡ [])))
-
--- the next line of a text, if any is left, and what follows it
+-- the next line of the text s, if any is left, and the text that is left behind it
 abbrev pub NextLine : List ℕ → Option (Bor (List ℕ)) → List ℕ → Type 0
-NextLine s None rest = (s ≡ []) × (rest ≡ [])
-NextLine s (Some line) rest = (0 < length s) × First s line.now rest
+NextLine s None left = (s ≡ []) × (left ≡ [])
+NextLine s (Some line) left = (0 < length s) × (line.now ≡ before_first is_newline s) × (left ≡ after_first is_newline s)

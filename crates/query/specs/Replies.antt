@@ -1,10 +1,11 @@
 -- What a query is answered, by the register of the image, and how the answer is written.
-use Rattle.std.specs.Prelude.{◌≡◌, ℕ, ◌^◌, Bool, true, false, min, cond, ◌&&◌, List, ◌++◌, Some, None, Ok, Err, codes, decimal, Option, Result, ◌==◌, nat_lt}
+use Rattle.std.specs.Prelude.{◌≡◌, ℕ, ◌^◌, Bool, true, false, ◌&&◌, List, ◌++◌, Some, None, Ok, Err, codes, decimal, unwrap_or, Option, Result, ◌==◌, nat_lt}
+use Rattle.std.specs.Option.{option_map}
+use Rattle.accept.specs.Images.{width_of}
 use Rattle.accept.specs.declared.image.Image.{Image}
-use Rattle.keys.specs.Blocks.{block_of}
-use Rattle.matches.specs.Asked.{asked, register_of}
-use Rattle.nodes.specs.Faults.{Answer, given, refused, number, text_of}
-use Rattle.prefix.specs.declared.pair.Pair.{Pair}
+use Rattle.keys.specs.Blocks.{Block, block_of}
+use Rattle.requests.specs.Requests.{refusal, register_of, unless_refused}
+use Rattle.nodes.specs.Faults.{Outcome, given, refused, number, text_of}
 use Rattle.register.specs.Entries.{Entry, Held, longest}
 use Rattle.query.specs.Spellings.{address_text}
 use Rattle.query.specs.Sites.{site_text}
@@ -16,49 +17,39 @@ use Rattle.query.specs.declared.reply.Refusal.{Refusal}
 use Rattle.query.specs.declared.reply.Refusal.TheVariants.{Unfit, Fault}
 use Rattle.query.specs.declared.site.Site.{Site}
 
--- k is a key of w bits, and may be written in this style: a quad has 32
+-- k is a key of w bits, and may be written in this style: four octets have 32
 abbrev pub belongs : ℕ → Style → ℕ → Bool
 belongs w Number k = nat_lt k (2 ^ w)
 belongs w Quad k = nat_lt k (2 ^ w) && w == 32
 
--- the length of a query: the whole key where none is given
-abbrev pub length_of : ℕ → Option ℕ → ℕ
-length_of w None = w
-length_of w (Some n) = n
+-- the length that a query asks for: the whole key where it gives none
+abbrev pub query_len : ℕ → Query → ℕ
+query_len w q = unwrap_or q.len w
 
--- the longest entry that contains the query's block, if the query is one for keys of w bits
-abbrev pub reply_to : ℕ → Image Site → Query → Answer (Option (Entry (Held Site)))
-reply_to w i q =
-    cond (belongs w q.address.style q.address.key)
-    (asked i.width w (length_of w q.len) (longest i.width (block_of i.width q.address.key (length_of w q.len)) (register_of i)))
-    (refused 15)
+-- the block that it asks for, among keys of w bits
+abbrev pub query_block : ℕ → Query → Block
+query_block w q = block_of w q.address.key (query_len w q)
 
-abbrev pub entry_of : Match → Entry (Held Site)
-entry_of m =
-    record {
-      block = record { address = m.address.key; len = m.len };
-      item = record { place = m.place; value = m.site };
-    }
+-- an entry with its site, its address written in this style
+abbrev pub match_of : Style → Entry (Held Site) → Match
+match_of s e = record {
+  address = record { style = s; key = e.block.address };
+  len = e.block.len;
+  place = e.item.place;
+  site = e.item.value;
+}
 
-abbrev pub told : Result (Option Match) Refusal → Answer (Option (Entry (Held Site)))
-told (Ok (Some m)) = given (Some (entry_of m))
-told (Ok None) = given None
-told (Err Unfit) = refused 15
-told (Err (Fault e)) = refused (number e)
+-- what the image answers to a query whose key belongs: the longest entry that contains its block, unless it is refused by 13 or 12
+abbrev pub query_outcome : ℕ → Image Site → Query → Outcome (Option Match)
+query_outcome w i q =
+    unless_refused (refusal (width_of i) w (query_len w q))
+    (option_map (match_of q.address.style) (longest (width_of i) (query_block w q) (register_of i)))
 
--- what is found is written as the query is
-abbrev pub Alike : Style → Result (Option Match) Refusal → Type 0
-Alike s (Ok (Some m)) = m.address.style ≡ s
-Alike s (Ok None) = Unit {0}
-Alike s (Err _) = Unit {0}
-
-abbrev pub Replied : ℕ → Image Site → Query → Result (Option Match) Refusal → Type 0
-Replied w i q r = (told r ≡ reply_to w i q) × Alike q.address.style r
-
--- the pair that asks for the query's block, or why a kind of keys of w bits has none
-abbrev pub Asks : {K : Type 0} → ℕ → (K → ℕ) → Query → Result (Pair K) Refusal → Type 0
-Asks w num q (Ok p) = (belongs w q.address.style q.address.key ≡ true) × (num p.repr ≡ q.address.key) × (p.len ≡ min (length_of w q.len) 255)
-Asks w num q (Err e) = (belongs w q.address.style q.address.key ≡ false) × (e ≡ Unfit)
+-- the reply to a query for keys of w bits: `Unfit` where its key does not belong, and else what the image answers
+abbrev pub IsReply : ℕ → Image Site → Query → Result (Option Match) Refusal → Type 0
+IsReply w i q (Ok m) = (belongs w q.address.style q.address.key ≡ true) × (given m ≡ query_outcome w i q)
+IsReply w i q (Err (Fault e)) = (belongs w q.address.style q.address.key ≡ true) × (refused (number e) ≡ query_outcome w i q)
+IsReply w i q (Err Unfit) = belongs w q.address.style q.address.key ≡ false
 
 abbrev pub match_text : Match → List ℕ
 match_text m =

@@ -1,5 +1,4 @@
-ghost use Rattle.query.specs.Spellings.{Parsed, SmallAddress, address_text, quad};
-ghost use Rattle.sheet.specs.Columns.{Small};
+ghost use Rattle.query.specs.Spellings.{FitsAddress, FitsNumber, ParsesWhole, address_text, quad_text};
 ghost use Rattle.std.specs.Prelude.{Some};
 
 use crate::number::parse_number;
@@ -25,7 +24,7 @@ pub struct Address {
 // Reads four octets with dots between them.
 #[tactic(auto, using(crate::proofs::Quads::quad_read))]
 fn parse_quad(text: &str) -> Result<u32, ArchiveError>
-    ensures { Parsed Small quad text.now result }
+    ensures { ParsesWhole FitsNumber quad_text text.now result }
 {
     match text.parse::<Ipv4Addr>() {
         Ok(quad) => Ok(quad.to_bits()),
@@ -36,7 +35,7 @@ fn parse_quad(text: &str) -> Result<u32, ArchiveError>
 impl FromStr for Address {
     type Err = ArchiveError;
 
-    ghost from_str_gives = { Parsed SmallAddress address_text };
+    ghost from_str_gives = { ParsesWhole FitsAddress address_text };
 
     #[tactic(auto, using(crate::proofs::Queries::no_address))]
     fn from_str(text: &str) -> Result<Address, ArchiveError> {

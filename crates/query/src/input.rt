@@ -1,7 +1,8 @@
-ghost use Rattle.query.specs.Inputs.{Divided, Given, Lined, Unlined};
+ghost use Rattle.query.specs.Inputs.{AtMostOneInput, LoadsInput};
+ghost use Rattle.query.specs.Parts.{FindsInputParts, FollowsContents, LacksContents};
 ghost use Rattle.sheet.specs.Sheets.{Malformed, Wellformed};
 ghost use Rattle.std.specs.Bool.{MatchBool};
-ghost use Rattle.std.specs.Prelude.{◌≤◌, IfSome, MatchOption, length};
+ghost use Rattle.std.specs.Prelude.{◌≡◌, ◌≤◌, IfSome, MatchOption, length};
 
 use crate::site::Site;
 use nodes::error::ArchiveError;
@@ -35,7 +36,7 @@ struct Parts<'a> {
 // the sheet.
 #[tactic(auto, using(crate::proofs::Inputs::skips))]
 fn skip_sheet(text: &[u8]) -> Option<(Head, &[u8])>
-    ensures skipped { MatchOption result (Unlined text.now) (λ p. Lined text.now p.0 p.1.now) }
+    ensures skipped { MatchOption result (LacksContents text.now) (λ p. FollowsContents text.now p.0 p.1.now) }
     ensures shorter { IfSome result (λ p. length p.1.now ≤ length text.now) }
 {
     let (head, nodes) = Head::parse(text)?;
@@ -55,7 +56,7 @@ fn is_sheet(text: &[u8]) -> bool
 // The parts of a text that begins with a sheet and a site for each of its values.
 #[tactic(auto, using(crate::proofs::Inputs::divides))]
 fn divide(text: &[u8]) -> Option<Parts>
-    ensures { Divided text.now result }
+    ensures { FindsInputParts text.now result }
 {
     let (head, sites) = skip_sheet(text)?;
     let sheet = &text[..text.len() - sites.len()];
@@ -71,11 +72,13 @@ fn divide(text: &[u8]) -> Option<Parts>
     })
 }
 
-// Reads a sheet and a site for each of its values. A text without them is refused as such, whatever
-// memory there is.
-#[tactic(auto, using(crate::proofs::Inputs::begun, crate::proofs::Inputs::given_parts))]
+// Reads a sheet and a site for each of its values, and hands back the text of the queries. A text
+// without them is refused as such, whatever memory there is.
+#[tactic(auto, using(crate::proofs::Inputs::loads))]
 pub fn load(heap: Global, text: &[u8]) -> Result<Input, ReadError>
-    ensures { Given text.now result }
+    ensures loaded { LoadsInput text.now result }
+    ensures one { AtMostOneInput }
+    ensures same { text.exit.now ≡ text.entry.now }
 {
     let parts = divide(text).ok_or(ArchiveError::SheetMalformed)?;
     Ok(Input {

@@ -1,10 +1,10 @@
-ghost use Rattle.query.specs.Lines.{First, NextLine};
+ghost use Rattle.query.specs.Lines.{NextLine, text_left};
+ghost use Rattle.std.specs.Char.{is_newline};
 ghost use Rattle.std.specs.Iterator.{at_most};
-ghost use Rattle.std.specs.List.{position};
-ghost use Rattle.std.specs.Prelude.{◌≡◌, ◌<◌, ◌==◌, IfSome, length};
+ghost use Rattle.std.specs.List.{after_first, before_first, position};
+ghost use Rattle.std.specs.Prelude.{◌≡◌, ◌<◌, IfSome, length};
 
-// The lines of a text, without their ends; the last line may lack its end. A slice's `split` would
-// give an empty line more behind a last end.
+// The lines of a text, without their ends; the last line may lack its end.
 #[derive(Clone, Copy, Debug)]
 pub struct Lines<'a> {
     rest: &'a [u8],
@@ -12,7 +12,8 @@ pub struct Lines<'a> {
 
 impl<'a> Lines<'a> {
     pub fn of(text: &'a [u8]) -> Lines<'a>
-        ensures { result.rest.now ≡ text.now }
+        ensures text { text_left result ≡ text.now }
+        ensures same { text.exit.now ≡ text.entry.now }
     {
         Lines { rest: text }
     }
@@ -20,16 +21,17 @@ impl<'a> Lines<'a> {
 
 // Where the first line of a text ends, if it has an end.
 fn line_end(text: &[u8]) -> Option<usize>
-    ensures end { result ≡ position (λ b. b == 10) text.now }
+    ensures end { result ≡ position is_newline text.now }
     ensures inside { IfSome result (λ i. i < length text.now) }
 {
     text.iter().position(|b| *b == b'\n')
 }
 
 // The first line of a text, and what follows its end.
-#[tactic(auto, using(crate::proofs::Cuts::first_ended, crate::proofs::Cuts::first_unended))]
+#[tactic(auto, using(crate::proofs::Cuts::cuts))]
 fn first_line(text: &[u8]) -> (&[u8], &[u8])
-    ensures first { First text.now result.0.now result.1.now }
+    ensures line { result.0.now ≡ before_first is_newline text.now }
+    ensures rest { result.1.now ≡ after_first is_newline text.now }
     ensures shorter { 0 < length text.now → length result.1.now < length text.now }
 {
     match line_end(text) {
@@ -41,9 +43,9 @@ fn first_line(text: &[u8]) -> (&[u8], &[u8])
 impl<'a> Iterator for Lines<'a> {
     type Item = &'a [u8];
 
-    ghost next_gives = { λ s r t. NextLine s.rest.now r t.rest.now };
+    ghost next_gives = { λ s r t. NextLine (text_left s) r (text_left t) };
 
-    ghost remaining = { λ s. at_most (length s.rest.now) };
+    ghost remaining = { λ s. at_most (length (text_left s)) };
 
     fn next(&mut self) -> Option<&'a [u8]> {
         if self.rest.is_empty() {

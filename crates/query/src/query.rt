@@ -1,5 +1,5 @@
-ghost use Rattle.query.specs.Spellings.{One, Parsed, SmallQuery, query_text};
-ghost use Rattle.std.specs.Prelude.{Some};
+ghost use Rattle.query.specs.Spellings.{AtMostOneQuery, FitsQuery, ParsesWhole, query_text};
+ghost use Rattle.std.specs.Prelude.{◌≡◌, Some};
 
 use crate::address::Address;
 use crate::number::parse_number;
@@ -17,7 +17,7 @@ pub struct Query {
 impl FromStr for Query {
     type Err = ArchiveError;
 
-    ghost from_str_gives = { Parsed SmallQuery query_text };
+    ghost from_str_gives = { ParsesWhole FitsQuery query_text };
 
     #[tactic(auto, using(crate::proofs::Queries::queries))]
     fn from_str(text: &str) -> Result<Query, ArchiveError> {
@@ -35,10 +35,11 @@ impl FromStr for Query {
 }
 
 // Reads a query: a key, with a slash and a length behind it or without.
-#[tactic(auto, using(crate::proofs::Queries::one, crate::proofs::Queries::no_text))]
+#[tactic(auto, using(crate::proofs::Queries::one_query, crate::proofs::Queries::no_text))]
 pub fn parse_query(line: &[u8]) -> Result<Query, ArchiveError>
-    ensures parsed { Parsed SmallQuery query_text line.now result }
-    ensures one { One }
+    ensures parsed { ParsesWhole FitsQuery query_text line.now result }
+    ensures one { AtMostOneQuery }
+    ensures same { line.exit.now ≡ line.entry.now }
 {
     let text = str::from_utf8(line).map_err(|_| ArchiveError::SheetMalformed)?;
     text.parse()

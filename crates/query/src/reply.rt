@@ -1,10 +1,10 @@
-ghost use Rattle.keys.specs.Blocks.{cut};
-ghost use Rattle.matches.specs.Asked.{value_at};
-ghost use Rattle.nodes.specs.Faults.{answer};
-ghost use Rattle.query.specs.Replies.{Asks, Replied, belongs, match_text, refusal_text};
-ghost use Rattle.query.specs.declared.reply.Refusal.TheVariants.{Fault, Unfit};
+ghost use Rattle.accept.specs.Images.{nodes_of, values_of, width_of};
+ghost use Rattle.nodes.specs.Faults.{number, outcome};
+ghost use Rattle.query.specs.Replies.{IsReply, belongs, match_text, query_len, refusal_text};
+ghost use Rattle.query.specs.declared.reply.Refusal.TheVariants.{Fault};
 ghost use Rattle.register.specs.Laws.{RegisterLaws};
-ghost use Rattle.std.specs.Prelude.{◌≡◌, ◌%◌, ◌^◌, ◌≤◌, Some};
+ghost use Rattle.requests.specs.Requests.{value_answer, value_of};
+ghost use Rattle.std.specs.Prelude.{◌≡◌, ◌≤◌, IfSome, Some, is_some, min};
 
 use crate::address::{Address, Style};
 use crate::query::Query;
@@ -13,7 +13,6 @@ use accept::image::Image;
 use keys::Key;
 use matches::{get_lpm, value};
 use nodes::error::ArchiveError;
-use prefix::Prefix;
 use prefix::pair::Pair;
 use std::error::Error;
 use std::fmt;
@@ -27,15 +26,13 @@ pub struct Match {
     pub site: Site,
 }
 
-// Why a query is not answered: its key is one that the image's keys cannot be, or it has a fault.
+// Why a query is refused: its key is none of the kind that it is asked with, or it has a fault.
 #[derive(Clone, Copy, PartialEq, Eq, Debug)]
 pub enum Refusal {
     Unfit,
     Fault(ArchiveError),
 }
 
-// The conversion and the texts are written by hand, since clauses name the error that `?` makes and
-// what is printed, and a derive promises neither.
 impl From<ArchiveError> for Refusal {
     ghost from_gives = { λ e r. r ≡ Fault e };
 
@@ -44,8 +41,8 @@ impl From<ArchiveError> for Refusal {
     }
 }
 
-// Tells whether a key of so many bits is written like this.
-fn fits(address: Address, bits: u32) -> bool
+// Tells whether an address is written as a key of so many bits.
+fn belongs(address: Address, bits: u32) -> bool
     requires { bits ≤ 64 }
     ensures { result ≡ belongs bits address.style address.key }
 {
@@ -56,16 +53,18 @@ fn fits(address: Address, bits: u32) -> bool
     }
 }
 
-// The block that is asked for. A length past 255 is refused as 255 is.
+// The block that is asked for, where the key belongs. A length past 255 is refused as 255 is.
 #[tactic(auto, using(crate::proofs::Replies::narrowed))]
-fn asked_block<K: Key + Drop>(query: Query) -> Result<Pair<K>, Refusal>
-    ensures { Asks K.Key.width K.Key.num query result }
+fn query_block<K: Key + Drop>(query: Query) -> Option<Pair<K>>
+    ensures belongs { is_some result ≡ belongs K.Key.width query.address.style query.address.key }
+    ensures key { IfSome result (λ p. K.Key.num p.repr ≡ query.address.key) }
+    ensures len { IfSome result (λ p. p.len ≡ min (query_len K.Key.width query) 255) }
 {
     let bits = K::bits();
-    if !fits(query.address, bits) {
-        return Err(Refusal::Unfit);
+    if !belongs(query.address, bits) {
+        return None;
     }
-    Ok(Pair {
+    Some(Pair {
         repr: K::narrow(query.address.key),
         len: query.len.unwrap_or(bits).min(255) as u8,
     })
@@ -74,12 +73,11 @@ fn asked_block<K: Key + Drop>(query: Query) -> Result<Pair<K>, Refusal>
 // A block with its place and its site, its address in this style.
 fn matched<K: Key + Drop>(style: Style, block: Pair<K>, place: u32, site: Site) -> Match
     ensures style { result.address.style ≡ style }
-    ensures key { result.address.key ≡ cut K.Key.width (block.len % 2 ^ 8) (K.Key.num block.repr) }
-    ensures len { result.len ≡ block.len % 2 ^ 8 }
+    ensures key { result.address.key ≡ K.Key.num block.repr }
+    ensures len { result.len ≡ block.len }
     ensures place { result.place ≡ place }
     ensures site { result.site ≡ site }
 {
-    let block = Pair::<K>::from_repr_len(block.repr, block.len);
     Match {
         address: Address {
             style,
@@ -93,18 +91,21 @@ fn matched<K: Key + Drop>(style: Style, block: Pair<K>, place: u32, site: Site) 
 
 // The site at a place of the image.
 fn site_at(image: &Image<Site>, place: u32) -> Result<Site, ArchiveError>
-    ensures site { answer result ≡ value_at image.now.values.now place }
-    ensures register { RegisterLaws image.now.width image.now.nodes.now image.now.values.now }
+    ensures site { outcome number result ≡ value_answer (value_of image.now place) }
+    ensures register { RegisterLaws (width_of image.now) (nodes_of image.now) (values_of image.now) }
 {
     Ok(*value(image, place)?)
 }
 
-// The longest entry of the image that contains the query's block.
+// The reply to a query: the longest entry of the image that contains the query's block.
 pub fn answer<K: Key + Drop>(image: &Image<Site>, query: Query) -> Result<Option<Match>, Refusal>
-    ensures { Replied K.Key.width image.now query result }
+    ensures reply { IsReply K.Key.width image.now query result }
+    ensures same { image.exit.now ≡ image.entry.now }
 {
-    let block = asked_block::<K>(query)?;
-    let Some((block, place)) = get_lpm(image, &block)? else {
+    let Some(asked) = query_block::<K>(query) else {
+        return Err(Refusal::Unfit);
+    };
+    let Some((block, place)) = get_lpm(image, &asked)? else {
         return Ok(None);
     };
     let site = site_at(image, place)?;

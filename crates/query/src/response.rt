@@ -1,6 +1,6 @@
-ghost use Rattle.query.specs.Responses.{Responded, answered_text, no_query_text};
-ghost use Rattle.query.specs.Spellings.{One};
-ghost use Rattle.std.specs.Prelude.{Some};
+ghost use Rattle.query.specs.Responses.{IsResponse, answered_text, no_query_text};
+ghost use Rattle.query.specs.Spellings.{AtMostOneQuery};
+ghost use Rattle.std.specs.Prelude.{◌≡◌, Some};
 
 use crate::query::{Query, parse_query};
 use crate::reply::{Match, Refusal, answer};
@@ -29,8 +29,9 @@ pub fn respond<K: Key + Drop>(
     number: u64,
     line: &[u8],
 ) -> Result<Answered, NoQuery>
-    ensures responded { Responded K.Key.width image.now number line.now result }
-    ensures one { One }
+    ensures response { IsResponse K.Key.width image.now number line.now result }
+    ensures one { AtMostOneQuery }
+    ensures same { (image.exit.now ≡ image.entry.now) × (line.exit.now ≡ line.entry.now) }
 {
     match parse_query(line) {
         Ok(query) => Ok(Answered {

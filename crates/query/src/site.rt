@@ -36,13 +36,13 @@ impl From<Site> for [u32; 3] {
 }
 
 impl Line<3> for Site {
-    ghost told = { site_numbers };
+    ghost numbers = { site_numbers };
 
-    ghost few = { Prim.search rules };
+    ghost fits_memory = { Prim.search rules };
 
-    ghost counted = { Prim.search rules };
+    ghost has_count = { Prim.search rules };
 
-    ghost apart = { Prim.search rules };
+    ghost identified = { Prim.search rules };
 
     fn from_columns(columns: &[u32; 3]) -> Option<Site> {
         Some(Site::from(*columns))

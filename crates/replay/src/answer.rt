@@ -1,8 +1,6 @@
 // What is said of two lists, `ok` or the number of a fault of acceptance.
-use anyhow::anyhow;
 use nodes::error::ArchiveError;
 use std::fmt;
-use std::str::FromStr;
 
 // The faults of acceptance in the order of their numbers.
 pub(crate) const FAULTS: [ArchiveError; 11] = [
@@ -22,16 +20,14 @@ pub(crate) const FAULTS: [ArchiveError; 11] = [
 #[derive(Clone, Copy, PartialEq, Eq)]
 pub struct Answer(pub Result<(), ArchiveError>);
 
-impl FromStr for Answer {
-    type Err = anyhow::Error;
-
-    fn from_str(word: &str) -> anyhow::Result<Answer> {
+impl Answer {
+    pub(crate) fn parse(word: &str) -> Option<Answer> {
         if word == "ok" {
-            return Ok(Answer(Ok(())));
+            return Some(Answer(Ok(())));
         }
-        match ArchiveError::try_from(word.parse::<u32>()?) {
-            Ok(fault) if FAULTS.contains(&fault) => Ok(Answer(Err(fault))),
-            _ => Err(anyhow!("a fault is a number from 1 to 11")),
+        match ArchiveError::try_from(word.parse::<u32>().ok()?) {
+            Ok(fault) if FAULTS.contains(&fault) => Some(Answer(Err(fault))),
+            _ => None,
         }
     }
 }

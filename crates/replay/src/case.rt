@@ -4,6 +4,7 @@ use crate::run::Run;
 use anyhow::Context;
 use nodes::node::Node;
 use std::alloc::Global;
+use std::str::SplitAsciiWhitespace;
 use tables::width::Width;
 
 #[derive(Drop)]
@@ -18,21 +19,28 @@ impl Case {
     // Not `FromStr`, which takes no allocator.
     pub(crate) fn parse(alloc: Global, line: &str) -> anyhow::Result<Case> {
         let mut words = line.split_ascii_whitespace();
-        let width = words.next().context("no width")?.parse::<Width>()?;
-        let answer = words.next().context("no answer")?.parse::<Answer>()?;
-        let values = words
-            .next()
-            .context("no number of values")?
-            .parse::<usize>()?;
-        let mut nodes = Vec::new(alloc);
-        for word in words {
-            word.parse::<Run>()?.push_to(&mut nodes)?;
-        }
+        let (width, answer, values) = head(&mut words).context("no width, answer and number")?;
         Ok(Case {
             width,
             answer,
             values,
-            nodes,
+            nodes: nodes_of(alloc, words)?,
         })
     }
+}
+
+fn head(words: &mut SplitAsciiWhitespace<'_>) -> Option<(Width, Answer, usize)> {
+    let width = words.next()?.parse::<Width>().ok()?;
+    let answer = Answer::parse(words.next()?)?;
+    Some((width, answer, words.next()?.parse::<usize>().ok()?))
+}
+
+fn nodes_of(alloc: Global, words: SplitAsciiWhitespace<'_>) -> anyhow::Result<Vec<Node>> {
+    let mut nodes = Vec::new(alloc);
+    for word in words {
+        Run::parse(word)
+            .context("a word that is no nodes")?
+            .push_to(&mut nodes)?;
+    }
+    Ok(nodes)
 }

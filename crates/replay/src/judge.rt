@@ -1,5 +1,5 @@
 // The library's answer at the width that a case names.
-ghost use Rattle.nodes.specs.Faults.{answer};
+ghost use Rattle.nodes.specs.Faults.{number, outcome};
 ghost use Rattle.tables.specs.Words.{bits};
 ghost use Rattle.tree.specs.Verdict.{verdict};
 ghost use Rattle.std.specs.Prelude.{◌≡◌, length};
@@ -11,7 +11,7 @@ use tables::width::Width;
 
 // A width picks a type parameter, which takes an arm for each.
 pub(crate) fn judge(width: Width, nodes: &[Node], values: &[u8]) -> Result<(), ArchiveError>
-    ensures { answer result ≡ verdict (bits width) nodes.now (length values.now) }
+    ensures { outcome number result ≡ verdict (bits width) nodes.now (length values.now) }
 {
     match width {
         Width::Bits8 => accept::<u8, u8>(nodes, values),

@@ -13,50 +13,65 @@ use crate::case::Case;
 use crate::judge::judge;
 use crate::tally::Tally;
 use std::io::{BufRead, BufReader};
+use tables::compared::add_one;
 use tables::line::is_remark;
 
-// The table as it is replayed, and what was counted of it.
+// The table as it is replayed: how many lines, and what was counted of it.
 #[derive(Drop)]
 struct Replay<'a> {
     rt: &'a HostRuntime,
+    line: u64,
     tally: Tally,
 }
 
 impl<'a> Replay<'a> {
     // Runs one case, and says so where the answers differ.
-    fn run_case(&mut self, line: u64, case: &Case) -> anyhow::Result<()> {
+    fn run_case(&mut self, case: &Case) -> anyhow::Result<()> {
         let values = vec![in self.rt.alloc(); 0u8; case.values]?;
         let ours = Answer(judge(case.width, &case.nodes, &values));
-        let theirs = case.answer;
+        self.tally.count(case.width, case.answer, ours);
+        self.compare(case.answer, ours)
+    }
+
+    fn compare(&self, theirs: Answer, ours: Answer) -> anyhow::Result<()> {
         if ours != theirs {
-            println!(self.rt; "line {line}: the table has {theirs}, accept answers {ours}")?;
+            println!(self.rt;
+                "line {}: the table has {theirs}, accept answers {ours}",
+                self.line
+            )?;
         }
-        self.tally.count(case.width, theirs, ours);
         Ok(())
     }
 
-    fn read_line(&mut self, line: u64, text: &str) -> anyhow::Result<()> {
+    fn read_line(&mut self, text: &str) -> anyhow::Result<()> {
+        add_one(&mut self.line);
         if is_remark(text) {
             return Ok(());
         }
         match Case::parse(self.rt.alloc(), text) {
-            Ok(case) => self.run_case(line, &case),
+            Ok(case) => self.run_case(&case),
             Err(e) => {
-                println!(self.rt; "line {line} is no case")?;
+                println!(self.rt; "line {} is no case", self.line)?;
                 Err(e)
             }
         }
+    }
+
+    fn read_all(&mut self) -> anyhow::Result<()> {
+        for text in BufReader::new(self.rt.alloc(), self.rt.stdin())?.lines(self.rt.alloc()) {
+            self.read_line(&text?)?;
+        }
+        Ok(())
     }
 }
 
 fn main(rt: HostRuntime) -> anyhow::Result<()> {
     let mut replay = Replay {
         rt: &rt,
+        line: 0,
         tally: Tally::new(),
     };
-    for (line, text) in (1u64..).zip(BufReader::new(rt.alloc(), rt.stdin())?.lines(rt.alloc())) {
-        replay.read_line(line, &text?)?;
-    }
+    replay.read_all()?;
     println!(rt; "{}", replay.tally)?;
     Ok(())
 }

@@ -5,7 +5,6 @@ ghost use Rattle.std.specs.Prelude.{◌≡◌, ◌+◌, ◌%◌, ◌^◌, count_
 use nodes::node::Node;
 use std::alloc::AllocError;
 use std::iter::successors;
-use std::str::FromStr;
 use tables::node_word::NodeWord;
 
 #[derive(Clone, Copy)]
@@ -14,22 +13,20 @@ pub struct Run {
     count: u32,
 }
 
-impl FromStr for Run {
-    type Err = anyhow::Error;
-
-    fn from_str(word: &str) -> anyhow::Result<Run> {
-        let (node, count) = match word.split_once('*') {
-            None => (word, None),
-            Some((node, count)) => (node, Some(count)),
-        };
-        Ok(Run {
-            first: node.parse::<NodeWord>()?.0,
-            count: count.map_or(Ok(1), str::parse::<u32>)?,
-        })
-    }
-}
-
 impl Run {
+    pub(crate) fn parse(word: &str) -> Option<Run> {
+        match word.split_once('*') {
+            None => Some(Run {
+                first: word.parse::<NodeWord>().ok()?.0,
+                count: 1,
+            }),
+            Some((node, count)) => Some(Run {
+                first: node.parse::<NodeWord>().ok()?.0,
+                count: count.parse::<u32>().ok()?,
+            }),
+        }
+    }
+
     // Adds its nodes to the list.
     pub(crate) fn push_to(&self, nodes: &mut Vec<Node>) -> Result<(), AllocError> {
         let run = successors(Some(self.first), |node| Some(behind(*node)));

@@ -5,7 +5,7 @@ use crate::answer::{Answer, FAULTS};
 use nodes::error::ArchiveError;
 use std::fmt;
 use tables::compared::Compared;
-use tables::row::{Row, place_of};
+use tables::row::{Row, position_of};
 use tables::width::Width;
 
 #[derive(Drop)]
@@ -22,7 +22,7 @@ impl Tally {
         Tally {
             accepted: Row::NONE,
             faults: FAULTS.map(|fault| (fault, Row::NONE)),
-            cases: Compared::new(),
+            cases: Compared::NONE,
         }
     }
 
@@ -42,7 +42,7 @@ impl Tally {
     fn count_fault(&mut self, fault: ArchiveError, width: Width)
         ensures { self.new.cases ≡ self.old.cases }
     {
-        if let Some(place) = place_of(&self.faults, &fault) {
+        if let Some(place) = position_of(&self.faults, &fault) {
             self.faults[place].1.bump(width);
         }
     }

@@ -1,10 +1,9 @@
 // An accepted set, and the operations on it.
-ghost use Rattle.std.specs.Prelude.{◌≡◌, ◌*◌, ◌/◌, ◌%◌, ◌^◌, bit_xor, take};
-ghost use Rattle.std.specs.Iterator.{IsFinite};
+ghost use Rattle.std.specs.Prelude.{◌≡◌, take};
 
 use crate::files::Lists;
 use crate::op::Op;
-use crate::tally::{Answer, Tally};
+use crate::tally::{Answer, Digest, Sum, Tally};
 use accept::accept::accept;
 use accept::image::Image;
 use coverage::{AddressCount, address_count, is_covered_in_aggregate};
@@ -13,6 +12,7 @@ use matches::{get, get_lpm, get_spm, value};
 use nodes::error::ArchiveError;
 use nodes::node::Node;
 use prefix::pair::Pair;
+use std::alloc::{AllocError, Global};
 use std::mem::size_of_val;
 
 #[derive(Drop)]
@@ -31,54 +31,32 @@ fn first<T>(items: &[T], limit: usize) -> &[T]
 }
 
 // The whole key as a query.
-fn whole<K: Key>(key: K) -> Pair<K>
-    ensures { (result.repr ≡ key) × (result.len ≡ K.width) }
-{
+#[inline(always)]
+fn whole<K: Key>(key: K) -> Pair<K> {
     Pair {
         repr: key,
         len: K::bits() as u8,
     }
 }
 
+// Each key with its length, as far as there are both.
+pub(crate) fn pairs_of<K: Key + Drop>(
+    heap: Global,
+    keys: &[K],
+    lens: &[u8],
+) -> Result<Vec<Pair<K>>, AllocError> {
+    let mut pairs = Vec::new(heap);
+    for (key, len) in keys.iter().zip(lens) {
+        pairs.push(Pair {
+            repr: *key,
+            len: *len,
+        })?;
+    }
+    Ok(pairs)
+}
+
 // How many keys the pass over wide blocks takes.
 const WIDE_KEYS: usize = 1 << 17;
-
-// The length of the blocks that are asked about, three quarters of the key's.
-fn narrow_len<K: Key>() -> u8
-    ensures { result ≡ K.width * 3 / 4 }
-{
-    (K::bits() * 3 / 4) as u8
-}
-
-// The length of the wide blocks, half of the key's.
-fn wide_len<K: Key>() -> u8
-    ensures { result ≡ K.width / 2 }
-{
-    (K::bits() / 2) as u8
-}
-
-// The key, with the bits turned that this number has.
-fn turned<K: Key>(key: K, bits: u64) -> K
-    ensures { K.num result ≡ bit_xor (K.num key) bits % 2 ^ K.width }
-{
-    K::narrow(key.widen() ^ bits)
-}
-
-// The tally of the answers to the items, one after another, or the first fault. An answer may
-// depend on the tally before it. Nothing is allocated.
-fn tally_of<I: Iterator, T: Tally, F: Fn(T, I::Item) -> Result<Option<Answer>, ArchiveError>>(
-    mut items: I,
-    start: T,
-    find: F,
-) -> Result<T, ArchiveError>
-    requires can { I.can_next items }
-    requires ends { IsFinite (I.remaining items) }
-    requires callable { F.IsAlwaysCallable find }
-{
-    items.try_fold(start, |tally, item| -> Result<T, ArchiveError> {
-        Ok(tally.with(find(tally, item)?))
-    })
-}
 
 impl<'a, K: Key + Drop> Bench<'a, K> {
     // Accepts the lists under keys of this kind, and keeps the first so many keys.
@@ -93,8 +71,8 @@ impl<'a, K: Key + Drop> Bench<'a, K> {
         accept::<K, u32>(nodes, values)?;
         Ok(Bench {
             image: Image::new::<K>(nodes, values),
-            queries: first(queries, limit),
             keys: first(keys, limit),
+            queries: first(queries, limit),
         })
     }
 
@@ -115,33 +93,73 @@ impl<'a, K: Key + Drop> Bench<'a, K> {
 
     // The tally of a pass over the first so many keys; acceptance and the count are always whole.
     pub(crate) fn pass<T: Tally>(&self, op: Op, limit: usize, start: T) -> Result<T, ArchiveError> {
-        let keys = first(self.keys, limit).iter();
-        let zero = self.zero();
+        let keys = first(self.keys, limit);
         match op {
             Op::Acceptance => Ok(start.with(Some(self.verdict()))),
-            Op::Exact => tally_of(
-                first(self.queries, limit).iter(),
-                start,
-                |_, query| self.exact(query),
-            ),
-            Op::Longest => tally_of(keys, start, |_, key| self.longest(*key)),
-            Op::LongestValue => tally_of(keys, start, |_, key| self.longest_value(*key)),
-            // Each key waits for the answer before it: the bits of the tally that `zero` has are
-            // turned in it. There are none, which the compiler does not know.
-            Op::LongestValueChained => tally_of(keys, start, |tally, key| {
-                self.longest_value(turned(*key, tally.number() & zero))
-            }),
-            Op::Shortest => tally_of(keys, start, |_, key| self.shortest(*key)),
-            Op::Covered => {
-                let len = narrow_len::<K>();
-                tally_of(keys, start, |_, key| self.covered(*key, len))
-            }
-            Op::CoveredWide => {
-                let len = wide_len::<K>();
-                tally_of(keys, start, |_, key| self.covered(*key, len))
-            }
+            Op::Exact => self.pass_exact(first(self.queries, limit), start),
+            Op::Longest => self.pass_longest(keys, start),
+            Op::LongestValue => self.pass_longest_value(keys, start),
+            Op::LongestValueChained => self.pass_chained(keys, start),
+            Op::Shortest => self.pass_shortest(keys, start),
+            Op::Covered => self.pass_covered(keys, (K::bits() * 3 / 4) as u8, start),
+            Op::CoveredWide => self.pass_covered(keys, (K::bits() / 2) as u8, start),
             Op::Count => Ok(start.with(Some(self.count()))),
         }
+    }
+
+    // A pass takes the answers into the tally one after another, or answers the first fault. Nothing is
+    // allocated.
+    fn pass_exact<T: Tally>(&self, queries: &[Pair<K>], start: T) -> Result<T, ArchiveError> {
+        let mut tally = start;
+        for query in queries {
+            tally = tally.with(self.exact(query)?);
+        }
+        Ok(tally)
+    }
+
+    fn pass_longest<T: Tally>(&self, keys: &[K], start: T) -> Result<T, ArchiveError> {
+        let mut tally = start;
+        for key in keys {
+            tally = tally.with(self.longest(*key)?);
+        }
+        Ok(tally)
+    }
+
+    fn pass_longest_value<T: Tally>(&self, keys: &[K], start: T) -> Result<T, ArchiveError> {
+        let mut tally = start;
+        for key in keys {
+            tally = tally.with(self.longest_value(*key)?);
+        }
+        Ok(tally)
+    }
+
+    // Each key waits for the answer before it: the bits of the tally that `zero` has are turned in it.
+    // There are none, which the compiler does not know.
+    fn pass_chained<T: Tally>(&self, keys: &[K], start: T) -> Result<T, ArchiveError> {
+        let zero = self.zero();
+        let mut tally = start;
+        for key in keys {
+            let turned = K::narrow(key.widen() ^ (tally.number() & zero));
+            tally = tally.with(self.longest_value(turned)?);
+        }
+        Ok(tally)
+    }
+
+    fn pass_shortest<T: Tally>(&self, keys: &[K], start: T) -> Result<T, ArchiveError> {
+        let mut tally = start;
+        for key in keys {
+            tally = tally.with(self.shortest(*key)?);
+        }
+        Ok(tally)
+    }
+
+    // Of the blocks that the keys are in at this length.
+    fn pass_covered<T: Tally>(&self, keys: &[K], len: u8, start: T) -> Result<T, ArchiveError> {
+        let mut tally = start;
+        for key in keys {
+            tally = tally.with(self.covered(*key, len)?);
+        }
+        Ok(tally)
     }
 
     // The root's data index: 0 in an accepted image, which the compiler does not know.
@@ -158,32 +176,41 @@ impl<'a, K: Key + Drop> Bench<'a, K> {
         }
     }
 
-    // Without the hint it stays a call, and a pass takes up to half as many instructions again.
+    // Without the hint a call of a key stays a call, and a pass takes up to half as many instructions
+    // again.
     #[inline(always)]
     fn exact(&self, query: &Pair<K>) -> Result<Option<Answer>, ArchiveError> {
-        get(&self.image, query)?
-            .map(|place| self.value_at(place))
-            .transpose()
+        match get(&self.image, query)? {
+            None => Ok(None),
+            Some(place) => self.value_at(place),
+        }
     }
 
+    #[inline(always)]
     fn longest(&self, key: K) -> Result<Option<Answer>, ArchiveError> {
-        get_lpm(&self.image, &whole(key))?
-            .map(|(prefix, place)| self.entry_at(prefix, place))
-            .transpose()
+        match get_lpm(&self.image, &whole(key))? {
+            None => Ok(None),
+            Some((prefix, place)) => self.entry_at(prefix, place),
+        }
     }
 
+    #[inline(always)]
     fn longest_value(&self, key: K) -> Result<Option<Answer>, ArchiveError> {
-        get_lpm(&self.image, &whole(key))?
-            .map(|(_, place)| self.value_at(place))
-            .transpose()
+        match get_lpm(&self.image, &whole(key))? {
+            None => Ok(None),
+            Some((_, place)) => self.value_at(place),
+        }
     }
 
+    #[inline(always)]
     fn shortest(&self, key: K) -> Result<Option<Answer>, ArchiveError> {
-        get_spm(&self.image, &whole(key))?
-            .map(|(prefix, place)| self.entry_at(prefix, place))
-            .transpose()
+        match get_spm(&self.image, &whole(key))? {
+            None => Ok(None),
+            Some((prefix, place)) => self.entry_at(prefix, place),
+        }
     }
 
+    #[inline(always)]
     fn covered(&self, key: K, len: u8) -> Result<Option<Answer>, ArchiveError> {
         let covered = is_covered_in_aggregate(&self.image, &Pair { repr: key, len })?;
         Ok(Some(Answer::Covered(covered)))
@@ -196,15 +223,56 @@ impl<'a, K: Key + Drop> Bench<'a, K> {
         })
     }
 
-    fn value_at(&self, place: u32) -> Result<Answer, ArchiveError> {
-        Ok(Answer::Value(*value(&self.image, place)?))
+    #[inline(always)]
+    fn value_at(&self, place: u32) -> Result<Option<Answer>, ArchiveError> {
+        Ok(Some(Answer::Value(*value(&self.image, place)?)))
     }
 
-    fn entry_at(&self, prefix: Pair<K>, place: u32) -> Result<Answer, ArchiveError> {
-        Ok(Answer::Entry {
+    #[inline(always)]
+    fn entry_at(&self, prefix: Pair<K>, place: u32) -> Result<Option<Answer>, ArchiveError> {
+        Ok(Some(Answer::Entry {
             address: prefix.repr.widen(),
             len: prefix.len,
             value: *value(&self.image, place)?,
-        })
+        }))
+    }
+}
+
+// A set with keys of one of the two widths.
+#[derive(Drop)]
+pub enum AnyBench<'a> {
+    Bits32(Bench<'a, u32>),
+    Bits64(Bench<'a, u64>),
+}
+
+impl<'a> AnyBench<'a> {
+    pub(crate) fn image_bytes(&self) -> usize {
+        match self {
+            AnyBench::Bits32(bench) => bench.image_bytes(),
+            AnyBench::Bits64(bench) => bench.image_bytes(),
+        }
+    }
+
+    pub(crate) fn number(&self, op: Op) -> usize {
+        match self {
+            AnyBench::Bits32(bench) => bench.number(op),
+            AnyBench::Bits64(bench) => bench.number(op),
+        }
+    }
+
+    // The sum of a pass over the first so many keys.
+    pub(crate) fn sum(&self, op: Op, limit: usize) -> Result<u64, ArchiveError> {
+        match self {
+            AnyBench::Bits32(bench) => Ok(bench.pass(op, limit, Sum(0))?.number()),
+            AnyBench::Bits64(bench) => Ok(bench.pass(op, limit, Sum(0))?.number()),
+        }
+    }
+
+    // The hash of a pass over the first so many keys.
+    pub(crate) fn hash(&self, op: Op, limit: usize) -> Result<u64, ArchiveError> {
+        match self {
+            AnyBench::Bits32(bench) => Ok(bench.pass(op, limit, Digest::new())?.number()),
+            AnyBench::Bits64(bench) => Ok(bench.pass(op, limit, Digest::new())?.number()),
+        }
     }
 }

@@ -1,4 +1,5 @@
-// The files of a set. All numbers stand with the lowest byte first, and no file has a head.
+// The files of a set. All numbers stand with the lowest byte first, and no file has a head. The bytes
+// behind the last whole item of a file are left out.
 use nodes::node::Node;
 use std::alloc::{AllocError, Global};
 use std::{fs, io};
@@ -12,16 +13,31 @@ pub struct Lists {
     pub(crate) lens: Vec<u8>,
 }
 
-// The items that groups of bytes or of numbers are. The groups are made by the caller: a bound on a
-// function of an array of N, for a parameter N, gets no proof.
-pub(crate) fn items<G: Copy, T: Drop, F: Fn(G) -> T>(
-    heap: Global,
-    groups: &[G],
-    item: F,
-) -> Result<Vec<T>, AllocError>
-    requires { F.IsAlwaysCallable item }
-{
-    groups.iter().map(|group| item(*group)).collect(heap)
+// The numbers of 32 bits that the bytes are.
+pub(crate) fn numbers_of(heap: Global, bytes: &[u8]) -> Result<Vec<u32>, AllocError> {
+    let mut numbers = Vec::new(heap);
+    for group in bytes.as_chunks::<4>().0 {
+        numbers.push(u32::from_le_bytes(*group))?;
+    }
+    Ok(numbers)
+}
+
+// The numbers of 64 bits that the bytes are.
+pub(crate) fn long_numbers_of(heap: Global, bytes: &[u8]) -> Result<Vec<u64>, AllocError> {
+    let mut numbers = Vec::new(heap);
+    for group in bytes.as_chunks::<8>().0 {
+        numbers.push(u64::from_le_bytes(*group))?;
+    }
+    Ok(numbers)
+}
+
+// The nodes that the numbers are.
+fn nodes_of(heap: Global, numbers: &[u32]) -> Result<Vec<Node>, AllocError> {
+    let mut nodes = Vec::new(heap);
+    for group in numbers.as_chunks::<4>().0 {
+        nodes.push(Node::from(*group))?;
+    }
+    Ok(nodes)
 }
 
 fn read_file(rt: &HostRuntime, folder: &str, set: &str, kind: &str) -> io::Result<Vec<u8>> {
@@ -29,19 +45,20 @@ fn read_file(rt: &HostRuntime, folder: &str, set: &str, kind: &str) -> io::Resul
     fs::read(rt, &path)
 }
 
-// The bytes behind the last whole item of a file are left out.
+fn read_numbers(rt: &HostRuntime, folder: &str, set: &str, kind: &str) -> io::Result<Vec<u32>> {
+    let bytes = read_file(rt, folder, set, kind)?;
+    Ok(numbers_of(rt.alloc(), &bytes)?)
+}
+
+fn read_nodes(rt: &HostRuntime, folder: &str, set: &str) -> io::Result<Vec<Node>> {
+    let numbers = read_numbers(rt, folder, set, "nodes")?;
+    Ok(nodes_of(rt.alloc(), &numbers)?)
+}
+
 pub(crate) fn read_lists(rt: &HostRuntime, folder: &str, set: &str) -> io::Result<Lists> {
-    let heap = rt.alloc();
-    let nodes = read_file(rt, folder, set, "nodes")?;
-    let values = read_file(rt, folder, set, "values")?;
-    let numbers = items(heap, nodes.as_chunks().0, u32::from_le_bytes)?;
     Ok(Lists {
-        nodes: items(
-            heap,
-            numbers.as_chunks().0,
-            |numbers: [u32; 4]| Node::from(numbers),
-        )?,
-        values: items(heap, values.as_chunks().0, u32::from_le_bytes)?,
+        nodes: read_nodes(rt, folder, set)?,
+        values: read_numbers(rt, folder, set, "values")?,
         keys: read_file(rt, folder, set, "keys")?,
         lens: read_file(rt, folder, set, "lens")?,
     })

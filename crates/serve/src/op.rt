@@ -5,7 +5,7 @@ ghost use Rattle.serve.specs.Ops.{name_of, Named};
 use std::fmt;
 use std::str::FromStr;
 
-#[derive(Clone, Copy, PartialEq, Eq, Debug)]
+#[derive(Clone, Copy)]
 pub enum Op {
     Acceptance,
     Exact,
@@ -45,7 +45,6 @@ impl fmt::Display for Op {
 }
 
 // A name that no operation has.
-#[derive(Clone, Copy, PartialEq, Eq, Debug)]
 pub struct UnknownOp;
 
 impl FromStr for Op {

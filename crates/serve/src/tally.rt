@@ -4,7 +4,7 @@ ghost use Rattle.std.specs.Prelude.{◌≡◌, ◌+◌, ◌%◌, ◌^◌, ℕ, O
 ghost use Rattle.serve.specs.declared.tally.Answer.{Answer};
 ghost use Rattle.serve.specs.Answers.{added, summed, hashed, digested};
 
-#[derive(Clone, Copy, PartialEq, Eq, Debug)]
+#[derive(Clone, Copy)]
 pub enum Answer {
     // Whether the lists were refused.
     Verdict { refused: bool },
@@ -17,6 +17,7 @@ pub enum Answer {
 
 impl Answer {
     // What it adds to a sum.
+    #[inline(always)]
     fn adds(self) -> u64
         ensures { result ≡ added self % 2 ^ 64 }
     {
@@ -51,7 +52,7 @@ pub trait Tally: Copy {
 }
 
 // The sum, which wraps. An absent answer adds nothing.
-#[derive(Clone, Copy, PartialEq, Eq, Debug)]
+#[derive(Clone, Copy, PartialEq, Eq)]
 pub struct Sum(pub u64);
 
 impl Tally for Sum {
@@ -59,10 +60,15 @@ impl Tally for Sum {
 
     ghost after = { summed };
 
+    #[inline(always)]
     fn with(self, answer: Option<Answer>) -> Sum {
-        answer.map_or(self, |answer| Sum(self.0.wrapping_add(answer.adds())))
+        match answer {
+            None => self,
+            Some(answer) => Sum(self.0.wrapping_add(answer.adds())),
+        }
     }
 
+    #[inline(always)]
     fn number(self) -> u64 {
         self.0
     }
@@ -72,7 +78,7 @@ impl Tally for Sum {
 const ABSENT: u64 = u64::MAX;
 
 // The 64-bit FNV-1a hash, by words in place of bytes.
-#[derive(Clone, Copy, PartialEq, Eq, Debug)]
+#[derive(Clone, Copy)]
 pub struct Digest {
     state: u64,
 }
@@ -86,6 +92,7 @@ impl Digest {
         }
     }
 
+    #[inline(always)]
     fn word(self, word: u64) -> Digest
         ensures { result.state ≡ hashed self.state word }
     {
@@ -100,6 +107,7 @@ impl Tally for Digest {
 
     ghost after = { digested };
 
+    #[inline(always)]
     fn with(self, answer: Option<Answer>) -> Digest {
         match answer {
             None => self.word(ABSENT),
@@ -120,6 +128,7 @@ impl Tally for Digest {
         }
     }
 
+    #[inline(always)]
     fn number(self) -> u64 {
         self.state
     }

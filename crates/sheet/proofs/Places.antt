@@ -7,8 +7,8 @@ use Rattle.std.specs.Cmp.Lexicographic.{pointwise}
 use Rattle.std.proofs.lemmas.Slice.Eq.{bytes_eq-Decides}
 use Rattle.std.proofs.lemmas.List.{take_at, append_cancel_left}
 use Rattle.std.proofs.lemmas.Bool.{cases_Bool, false≢true, le-leb, and_from, cond-true, cond-false, or_parts, leb-false}
-use Rattle.sheet.specs.Columns.{mark, marks, column, Small}
-use Rattle.sheet.specs.Guesses.{extended, worth_after}
+use Rattle.sheet.specs.Columns.{mark, marks, column, FitsColumn}
+use Rattle.sheet.specs.Digits.{with_digit, column_value}
 
 pub ten_pos : (j : ℕ) → 0 < 10 ^ j
 ten_pos j = one-le-pow j 10 (omega arith)
@@ -17,43 +17,43 @@ next_rest : (n j : ℕ) → n / 10 ^ j / 10 ≡ n / 10 ^ suc j
 next_rest n j = div-div-eq-div-mul n (10 ^ j) 10 ∙ ap (λ (p : ℕ). n / p) (sym (pow-suc 10 j))
 
 -- a digit's mark carries the number on by one place
-digit_carries : (v r : ℕ) → r < 10 → extended v (48 + r) ≡ v * 10 + r
+digit_carries : (v r : ℕ) → r < 10 → with_digit v (48 + r) ≡ v * 10 + r
 digit_carries v r h =
     cond-true _ _ _ (and_from _ _ (le-leb 48 (48 + r) (omega arith)) (le-leb (48 + r) 57 (omega arith)))
     ∙ (omega arith)
 
-carries : (n j : ℕ) → extended (n / 10 ^ suc j) (mark n j) ≡ n / 10 ^ j
+carries : (n j : ℕ) → with_digit (n / 10 ^ suc j) (mark n j) ≡ n / 10 ^ j
 carries n j =
     ⊎_elim
     (λ (e : (eqb j 0 || leb (10 ^ j) n) ≡ true).
-    ap (extended (n / 10 ^ suc j)) (cond-true _ (48 + n / 10 ^ j % 10) 32 e)
+    ap (with_digit (n / 10 ^ suc j)) (cond-true _ (48 + n / 10 ^ j % 10) 32 e)
     ∙ digit_carries (n / 10 ^ suc j) (n / 10 ^ j % 10) (mod_below (n / 10 ^ j) 10 (omega arith))
     ∙ omega (arith, div-add-mod' (n / 10 ^ j) 10, next_rest n j))
     (λ (e : (eqb j 0 || leb (10 ^ j) n) ≡ false).
     let small : n < 10 ^ j = leb-false (10 ^ j) n (or_parts (eqb j 0) (leb (10 ^ j) n) e).1 in
-    ap (extended (n / 10 ^ suc j)) (cond-false _ (48 + n / 10 ^ j % 10) 32 e)
+    ap (with_digit (n / 10 ^ suc j)) (cond-false _ (48 + n / 10 ^ j % 10) 32 e)
     ∙ sym (next_rest n j) ∙ omega (arith, div-eq_of_lt small))
     (cases_Bool (eqb j 0 || leb (10 ^ j) n))
 
-back : (j n : ℕ) → worth_after (n / 10 ^ j) (marks j n) ≡ n
+back : (j n : ℕ) → column_value (n / 10 ^ j) (marks j n) ≡ n
 back zero n = div-one n
-back (suc j) n = ap (λ (v : ℕ). worth_after v (marks j n)) (carries n j) ∙ back j n
+back (suc j) n = ap (λ (v : ℕ). column_value v (marks j n)) (carries n j) ∙ back j n
 
-pub worth_column : (n : ℕ) → Small n → worth_after 0 (column n) ≡ n
+pub worth_column : (n : ℕ) → FitsColumn n → column_value 0 (column n) ≡ n
 unfolding column
-worth_column n h = ap (λ (v : ℕ). worth_after v (marks 11 n)) (sym (div-eq_of_lt (omega arith))) ∙ back 11 n
+worth_column n h = ap (λ (v : ℕ). column_value v (marks 11 n)) (sym (div-eq_of_lt (omega arith))) ∙ back 11 n
 
 pub length_column : (n : ℕ) → length (column n) ≡ 11
 unfolding column
 length_column n = refl
 
-worth_more : (v b : ℕ) → v ≤ extended v b
+worth_more : (v b : ℕ) → v ≤ with_digit v b
 worth_more v b = grind (arith, common_steps)
 
 -- more characters write no smaller number
-pub worth_grows : (v : ℕ) (bs : List ℕ) → v ≤ worth_after v bs
+pub worth_grows : (v : ℕ) (bs : List ℕ) → v ≤ column_value v bs
 worth_grows v [] = omega arith
-worth_grows v (b ∷ bs) = omega (arith, worth_more v b, worth_grows (extended v b) bs)
+worth_grows v (b ∷ bs) = omega (arith, worth_more v b, worth_grows (with_digit v b) bs)
 
 -- a text that a column stands in front of
 -- the first part is refl: it is there so that the check finds the term
@@ -62,13 +62,13 @@ pub column_front : (n : ℕ) (t : List ℕ) → (column n ++ t ≡ column n ++ t
 unfolding column
 column_front n t = (refl, omega arith, refl, refl)
 
-pub same_front : (n : ℕ) (s t : List ℕ) → Small n → s ≡ column n ++ t → worth_after 0 (take 11 s) ≡ n
+pub same_front : (n : ℕ) (s t : List ℕ) → FitsColumn n → s ≡ column n ++ t → column_value 0 (take 11 s) ≡ n
 same_front n s t h e =
-    ap (λ (u : List ℕ). worth_after 0 (take 11 u)) e
-    ∙ ap (worth_after 0) (take_at (column n) t 11 (length_column n)) ∙ worth_column n h
+    ap (λ (u : List ℕ). column_value 0 (take 11 u)) e
+    ∙ ap (column_value 0) (take_at (column n) t 11 (length_column n)) ∙ worth_column n h
 
 -- a text begins with the column of one number at most
-pub column_cancel : (m n : ℕ) (r t : List ℕ) → Small m → Small n → column m ++ r ≡ column n ++ t → (m ≡ n) × (r ≡ t)
+pub column_cancel : (m n : ℕ) (r t : List ℕ) → FitsColumn m → FitsColumn n → column m ++ r ≡ column n ++ t → (m ≡ n) × (r ≡ t)
 column_cancel m n r t h k e =
     let same : m ≡ n = sym (same_front m (column m ++ r) r h refl) ∙ same_front n (column m ++ r) t k e in
     (same, append_cancel_left (column m) r t (e ∙ ap (λ (x : ℕ). column x ++ t) (sym same)))

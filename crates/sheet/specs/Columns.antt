@@ -1,5 +1,5 @@
--- Numbers as text: columns of eleven characters, and lines of columns.
-use Rattle.std.specs.Prelude.{◌≡◌, ℕ, zero, suc, ◌+◌, ◌/◌, ◌%◌, ◌^◌, ◌<◌, cond, ◌||◌, List, [], ◌∷◌, ◌++◌, length, Some, None, Option, ◌==◌, ◌≢◌, nat_le}
+-- The text of numbers: a column of eleven characters for each, a line of columns for each entry of a list; and what it is to read such a text from the front.
+use Rattle.std.specs.Prelude.{◌≡◌, ℕ, zero, suc, ◌+◌, ◌/◌, ◌%◌, ◌^◌, ◌<◌, ◌≤◌, cond, ◌||◌, List, [], ◌∷◌, ◌++◌, length, drop, Some, None, Option, ◌==◌, ◌≢◌, nat_le}
 use Rattle.std.specs.Borrow.{Bor}
 use Rattle.std.specs.List.{flat_map, AllByRecursion}
 
@@ -19,66 +19,71 @@ column n = marks 11 n
 abbrev pub line : List ℕ → List ℕ
 line ns = flat_map column ns ++ (10 ∷ [])
 
--- the lines of a list, each of the numbers that its entry tells
+-- the lines of a list, each of the numbers of its entry
 abbrev pub lines : {X : Type 0} → (X → List ℕ) → List X → List ℕ
-lines told xs = flat_map (λ x. line (told x)) xs
+lines numbers xs = flat_map (λ x. line (numbers x)) xs
 
 -- a number that a column can hold
-abbrev pub Small : ℕ → Type 0
-Small n = n < 2 ^ 32
+abbrev pub FitsColumn : ℕ → Type 0
+FitsColumn n = n < 2 ^ 32
 
-abbrev pub Fit : List ℕ → Type 0
-Fit ns = AllByRecursion Small ns
+-- numbers that the columns of a line can hold
+abbrev pub FitsLine : List ℕ → Type 0
+FitsLine ns = AllByRecursion FitsColumn ns
 
--- the numbers of k columns
-abbrev pub Row : ℕ → List ℕ → Type 0
-Row k ns = Fit ns × (length ns ≡ k)
+-- the numbers of a line of k columns
+abbrev pub IsRow : ℕ → List ℕ → Type 0
+IsRow k ns = FitsLine ns × (length ns ≡ k)
 
--- entries whose numbers all fit
-abbrev pub Fits : {X : Type 0} → (X → List ℕ) → List X → Type 0
-Fits told xs = AllByRecursion (λ x. Fit (told x)) xs
+-- entries whose numbers lines can hold
+abbrev pub FitsLines : {X : Type 0} → (X → List ℕ) → List X → Type 0
+FitsLines numbers xs = AllByRecursion (λ x. FitsLine (numbers x)) xs
 
 -- the entries of m lines
-abbrev pub Rows : {X : Type 0} → (X → List ℕ) → ℕ → List X → Type 0
-Rows told m xs = Fits told xs × (length xs ≡ m)
+abbrev pub AreRows : {X : Type 0} → (X → List ℕ) → ℕ → List X → Type 0
+AreRows numbers m xs = FitsLines numbers xs × (length xs ≡ m)
 
--- entries told by one number of numbers, each by its own
-pub record Alike {X : Type 0} (told : X → List ℕ) : Type 0 where
+-- each entry has equally many numbers, and no two entries have the same
+pub record IsLineKind {X : Type 0} (numbers : X → List ℕ) : Type 0 where
   pub count : ℕ
-  pub counted : (x : X) → length (told x) ≡ count
-  pub apart : (x y : X) → told x ≡ told y → x ≡ y
+  pub has_count : (x : X) → length (numbers x) ≡ count
+  pub identified : (x y : X) → numbers x ≡ numbers y → x ≡ y
 
 -- s begins with the text of no good x
-unfoldable pub NoneOf : {X : Type 0} → (X → Type 0) → (X → List ℕ) → List ℕ → Type 0
-NoneOf {X} Good text s = (x : X) (t : List ℕ) → Good x → s ≢ text x ++ t
+unfoldable pub BeginsWithNone : {X : Type 0} → (X → Type 0) → (X → List ℕ) → List ℕ → Type 0
+BeginsWithNone {X} Good text s = (x : X) (t : List ℕ) → Good x → s ≢ text x ++ t
 
--- taken from the front of s: a good x whose text s begins with, and what follows it; or there is none
-abbrev pub Taken : {X : Type 0} → (X → Type 0) → (X → List ℕ) → List ℕ → Option (X × Bor (List ℕ)) → Type 0
-Taken Good text s None = NoneOf Good text s
-Taken Good text s (Some p) = Good p.0 × (s ≡ text p.0 ++ p.1.now)
+-- from the front of s: a good x whose text s begins with, and what follows it; none where there is none
+abbrev pub ParsesFront : {X : Type 0} → (X → Type 0) → (X → List ℕ) → List ℕ → Option (X × Bor (List ℕ)) → Type 0
+ParsesFront Good text s None = BeginsWithNone Good text s
+ParsesFront Good text s (Some p) = Good p.0 × (s ≡ text p.0 ++ p.1.now)
 
--- the same, where the x that was taken stands in a place of its own
-abbrev pub TakenTo : {X : Type 0} → (X → Type 0) → (X → List ℕ) → List ℕ → X → Option (Bor (List ℕ)) → Type 0
-TakenTo Good text s y None = NoneOf Good text s
-TakenTo Good text s y (Some r) = Good y × (s ≡ text y ++ r.now)
+-- the columns that s begins with, as many as there are up to k, hold the numbers ns
+unfoldable pub IsLongestFront : ℕ → List ℕ → List ℕ → Type 0
+IsLongestFront k s ns =
+    (r : List ℕ) × FitsLine ns × (length ns ≤ k) × (s ≡ flat_map column ns ++ r)
+    × (length ns < k → BeginsWithNone FitsColumn column r)
+
+-- those numbers in place of the first of the numbers before, and the others as they were
+unfoldable pub OverwritesFront : List ℕ → List ℕ → List ℕ → Type 0
+OverwritesFront s before after =
+    (ns : List ℕ) × IsLongestFront (length before) s ns × (after ≡ ns ++ drop (length ns) before)
+
+-- a line from the front of s: its numbers in place of those before, and what follows it; where there
+-- is none, the numbers of the columns that s begins with in place of as many of those before
+abbrev pub ParsesFrontInto : List ℕ → List ℕ → List ℕ → Option (Bor (List ℕ)) → Type 0
+ParsesFrontInto s before after None = BeginsWithNone (IsRow (length before)) line s × OverwritesFront s before after
+ParsesFrontInto s before after (Some r) = IsRow (length before) after × (s ≡ line after ++ r.now)
 
 -- s does not begin with m lines
-unfoldable pub Short : {X : Type 0} → (X → List ℕ) → ℕ → List ℕ → Type 0
-Short told m s = NoneOf (Rows told m) (lines told) s
+unfoldable pub LacksLines : {X : Type 0} → (X → List ℕ) → ℕ → List ℕ → Type 0
+LacksLines numbers m s = BeginsWithNone (AreRows numbers m) (lines numbers) s
 
--- r is what follows the m lines that s begins with
-unfoldable pub Behind : {X : Type 0} → (X → List ℕ) → ℕ → List ℕ → List ℕ → Type 0
-Behind {X} told m s r = (xs : List X) × Rows told m xs × (s ≡ lines told xs ++ r)
+-- s begins with m lines, and r follows them
+unfoldable pub FollowsLines : {X : Type 0} → (X → List ℕ) → ℕ → List ℕ → List ℕ → Type 0
+FollowsLines {X} numbers m s r = (xs : List X) × AreRows numbers m xs × (s ≡ lines numbers xs ++ r)
 
--- m lines taken from the front of s and not kept, and what follows them; or there are none
-abbrev pub Skipped : {X : Type 0} → (X → List ℕ) → ℕ → List ℕ → Option (Bor (List ℕ)) → Type 0
-Skipped told m s None = Short told m s
-Skipped told m s (Some r) = Behind told m s r.now
-
--- a good text put behind what stood there before
-abbrev pub Put : Type 0 → List ℕ → List ℕ → List ℕ → Type 0
-Put Good text before after = Good × (after ≡ before ++ text)
-
--- a front part of a text put behind what stood there before
-unfoldable pub PutPart : List ℕ → List ℕ → List ℕ → Type 0
-PutPart text before after = (t : List ℕ) × (u : List ℕ) × (text ≡ t ++ u) × (after ≡ before ++ t)
+-- what follows the m lines that s begins with; none where it does not
+abbrev pub SkipsLines : {X : Type 0} → (X → List ℕ) → ℕ → List ℕ → Option (Bor (List ℕ)) → Type 0
+SkipsLines numbers m s None = LacksLines numbers m s
+SkipsLines numbers m s (Some r) = FollowsLines numbers m s r.now

@@ -1,7 +1,7 @@
 pub mod Columns
 pub mod Limits
 pub mod Entries
-pub mod Guesses
+pub mod Digits
 pub mod Sheets
-pub mod Meaning
+pub mod Readings
 pub mod Refusals

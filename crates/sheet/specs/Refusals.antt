@@ -4,6 +4,6 @@ use Rattle.nodes.specs.Faults.{text_of}
 use Rattle.sheet.specs.declared.error.ReadError.{ReadError}
 use Rattle.sheet.specs.declared.error.ReadError.TheVariants.{Fault, OutOfMemory}
 
-abbrev pub refusal_text : ReadError → List ℕ
-refusal_text (Fault e) = text_of e
-refusal_text OutOfMemory = codes "out of memory"
+abbrev pub read_error_text : ReadError → List ℕ
+read_error_text (Fault e) = text_of e
+read_error_text OutOfMemory = codes "out of memory"

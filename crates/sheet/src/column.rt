@@ -1,6 +1,6 @@
 ghost use Rattle.std.specs.Prelude.{◌≡◌, ◌^◌, ◌<◌, ◌≤◌, MatchOption};
-ghost use Rattle.sheet.specs.Columns.{Small, Taken, column, mark};
-ghost use Rattle.sheet.specs.Guesses.{extended, worth_after};
+ghost use Rattle.sheet.specs.Columns.{FitsColumn, ParsesFront, column, mark};
+ghost use Rattle.sheet.specs.Digits.{with_digit, column_value};
 
 use std::array;
 
@@ -32,7 +32,7 @@ pub fn format_column(n: u32) -> [u8; WIDTH]
 
 // `value` with the digit `mark` set behind it, if that is below 2^32.
 fn extend(value: u32, mark: u8) -> Option<u32>
-    ensures { MatchOption result (2 ^ 32 ≤ extended value mark) (λ v. v ≡ extended value mark) }
+    ensures { MatchOption result (2 ^ 32 ≤ with_digit value mark) (λ v. v ≡ with_digit value mark) }
 {
     match mark {
         b'0'..=b'9' => value.checked_mul(10)?.checked_add(u32::from(mark - b'0')),
@@ -43,15 +43,16 @@ fn extend(value: u32, mark: u8) -> Option<u32>
 // The number that the digits among these characters write, if a column can hold it.
 #[tactic(auto, using(crate::proofs::Places::worth_grows))]
 fn candidate(marks: &[u8; WIDTH]) -> Option<u32>
-    ensures { MatchOption result (2 ^ 32 ≤ worth_after 0 marks.now) (λ v. v ≡ worth_after 0 marks.now) }
+    ensures { MatchOption result (2 ^ 32 ≤ column_value 0 marks.now) (λ v. v ≡ column_value 0 marks.now) }
 {
     marks.iter().copied().try_fold(0, extend)
 }
 
 // Reads a column from the front of a text.
-#[tactic(auto, using(crate::proofs::Places::fronts), unfolding(crate::specs::Columns::NoneOf))]
+#[tactic(auto, using(crate::proofs::Places::fronts), unfolding(crate::specs::Columns::BeginsWithNone))]
 pub fn parse_column(text: &[u8]) -> Option<(u32, &[u8])>
-    ensures { Taken Small column text.now result }
+    ensures column { ParsesFront FitsColumn column text.now result }
+    ensures same { text.exit.now ≡ text.entry.now }
 {
     let (marks, rest) = text.split_first_chunk::<WIDTH>()?;
     let n = candidate(marks)?;

@@ -1,5 +1,5 @@
 ghost use Rattle.sheet.specs.declared.error.ReadError.TheVariants.{Fault, OutOfMemory};
-ghost use Rattle.sheet.specs.Refusals.{refusal_text};
+ghost use Rattle.sheet.specs.Refusals.{read_error_text};
 ghost use Rattle.std.specs.Prelude.{◌≡◌, Some};
 
 use nodes::error::ArchiveError;
@@ -14,8 +14,6 @@ pub enum ReadError {
     OutOfMemory,
 }
 
-// The conversions and the text are written by hand, since clauses name the error that `?` makes and
-// what is printed of it, and thiserror's promise neither.
 impl From<ArchiveError> for ReadError {
     ghost from_gives = { λ e r. r ≡ Fault e };
 
@@ -41,7 +39,7 @@ impl<T: Drop> From<AllocFailed<T>> for ReadError {
 }
 
 impl fmt::Display for ReadError {
-    ghost output = { λ e. Some (refusal_text e) };
+    ghost output = { λ e. Some (read_error_text e) };
 
     fn fmt<W: fmt::Write>(&self, f: &mut fmt::Formatter<W>) -> fmt::Result {
         match self {

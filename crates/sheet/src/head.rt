@@ -1,5 +1,5 @@
 ghost use Rattle.sheet.specs.Entries.{head_numbers};
-ghost use Rattle.sheet.specs.Meaning.{meaning};
+ghost use Rattle.sheet.specs.Readings.{contents_of};
 ghost use Rattle.sheet.specs.Sheets.{head_of};
 ghost use Rattle.std.specs.Prelude.{◌≡◌};
 
@@ -38,7 +38,8 @@ impl From<Head> for [u32; 3] {
 
 impl Sheet {
     pub fn head(&self) -> Head
-        ensures { result ≡ head_of (meaning self.now) }
+        ensures head { result ≡ head_of (contents_of self.now) }
+        ensures same { self.exit.now ≡ self.entry.now }
     {
         Head {
             width: self.width,

@@ -1,5 +1,5 @@
-ghost use Rattle.std.specs.Prelude.{◌≡◌, ◌≢◌, ◌*◌, ◌<◌, ◌^◌, ℕ, List, length, MatchOption, OnErr, OnOk};
-ghost use Rattle.sheet.specs.Columns.{Alike, Fit, Fits, Put, PutPart, Row, Skipped, Taken, TakenTo, column, line, lines};
+ghost use Rattle.std.specs.Prelude.{◌≡◌, ◌≢◌, ◌+◌, ◌*◌, ◌<◌, ◌≤◌, ◌^◌, ◌++◌, ℕ, List, length, take, vec_len, vec_capacity, MatchOption, OnErr, OnOk};
+ghost use Rattle.sheet.specs.Columns.{FitsLine, FitsLines, IsLineKind, IsRow, ParsesFront, ParsesFrontInto, SkipsLines, column, line, lines};
 ghost use Rattle.sheet.specs.Entries.{head_numbers, node_numbers, value_numbers};
 ghost use Rattle.std.specs.List.{flat_map};
 ghost use Rattle.std.proofs.Common.{rules};
@@ -12,7 +12,8 @@ use std::alloc::AllocError;
 // Reads a line from the front of a text, with as many columns as `columns` has room for.
 #[tactic(auto, using(crate::proofs::Rulings::rows))]
 pub fn parse_row_into<'a>(text: &'a [u8], columns: &mut [u32]) -> Option<&'a [u8]>
-    ensures { TakenTo (Row (length columns.old)) line text.now columns.new result }
+    ensures row { ParsesFrontInto text.entry.now columns.old columns.new result }
+    ensures same { text.exit.now ≡ text.entry.now }
 {
     let mut rest = text;
     for n in columns.iter_mut() {
@@ -23,18 +24,21 @@ pub fn parse_row_into<'a>(text: &'a [u8], columns: &mut [u32]) -> Option<&'a [u8
 
 // Reads a line of N columns from the front of a text.
 pub fn parse_row<const N: usize>(text: &[u8]) -> Option<([u32; N], &[u8])>
-    ensures { Taken (Row N) line text.now result }
+    ensures row { ParsesFront (IsRow N) line text.now result }
+    ensures same { text.exit.now ≡ text.entry.now }
 {
     let mut columns = [0; N];
     let rest = parse_row_into(text, &mut columns)?;
     Some((columns, rest))
 }
 
-// Writes a line of these columns behind what `out` holds.
-#[tactic(auto, using(crate::proofs::Rulings::row_written))]
-pub fn append_row(out: &mut Vec<u8>, columns: &[u32]) -> Result<(), AllocError>
-    ensures ok { OnOk result (Put (Fit columns.now) (line columns.now) out.old.items out.new.items) }
-    ensures err { OnErr result (PutPart (line columns.now) out.old.items out.new.items) }
+// Writes a line behind what `out` holds, or a part of it where memory runs out.
+#[tactic(auto, using(crate::proofs::Rulings::row_pushed))]
+fn push_row(out: &mut Vec<u8>, columns: &[u32]) -> Result<(), AllocError>
+    ensures ok { OnOk result (FitsLine columns.now × (out.new.items ≡ out.old.items ++ line columns.now)) }
+    ensures err { OnErr result (take (vec_len out.old) out.new.items ≡ out.old.items) }
+    ensures full { OnErr result (vec_capacity out.old < vec_len out.old + length (line columns.now)) }
+    ensures capacity { vec_capacity out.old ≤ vec_capacity out.new }
 {
     for n in columns {
         out.extend_from_slice(&format_column(*n))?;
@@ -43,20 +47,39 @@ pub fn append_row(out: &mut Vec<u8>, columns: &[u32]) -> Result<(), AllocError>
     Ok(())
 }
 
-// What a line of N columns tells.
-pub trait Line<const N: usize>: Copy {
-    ghost told: { Self → List ℕ };
+// Writes a line of these columns behind what `out` holds. It fails only where `out` has too little
+// room for the line, and then leaves what `out` holds.
+pub fn append_row(out: &mut Vec<u8>, columns: &[u32]) -> Result<(), AllocError>
+    ensures ok { OnOk result (FitsLine columns.now × (out.new.items ≡ out.old.items ++ line columns.now)) }
+    ensures err { OnErr result (out.new.items ≡ out.old.items) }
+    ensures full { OnErr result (vec_capacity out.old < vec_len out.old + length (line columns.now)) }
+    ensures capacity { vec_capacity out.old ≤ vec_capacity out.new }
+    ensures same { columns.exit.now ≡ columns.entry.now }
+{
+    let len = out.len();
+    let pushed = push_row(out, columns);
+    if pushed.is_err() {
+        out.truncate(len);
+    }
+    pushed
+}
 
-    // What these numbers tell, if they tell anything.
+// A kind of line: the N numbers of an entry, and the entry that they are the numbers of.
+pub trait Line<const N: usize>: Copy {
+    ghost numbers: { Self → List ℕ };
+
+    // The entry with these numbers, if there is one.
     fn from_columns(columns: &[u32; N]) -> Option<Self>
-        ensures { MatchOption result ((x : Self) → told x ≢ columns.now) (λ x. told x ≡ columns.now) };
+        ensures entry { MatchOption result ((x : Self) → numbers x ≢ columns.now) (λ x. numbers x ≡ columns.now) }
+        ensures same { columns.exit.now ≡ columns.entry.now };
 
     fn to_columns(self) -> [u32; N]
-        ensures { result ≡ told self };
+        ensures { result ≡ numbers self };
 
-    #[tactic(auto, using(crate::proofs::Rulings::untold), unfolding(crate::specs::Columns::NoneOf))]
+    #[tactic(auto, using(crate::proofs::Rulings::no_entry), unfolding(crate::specs::Columns::BeginsWithNone))]
     fn parse(text: &[u8]) -> Option<(Self, &[u8])>
-        ensures { Taken (λ x. Fit (told x)) (λ x. line (told x)) text.now result }
+        ensures entry { ParsesFront (λ x. FitsLine (numbers x)) (λ x. line (numbers x)) text.now result }
+        ensures same { text.exit.now ≡ text.entry.now }
     {
         // Behind a reference, since the check does not cover `?` on an array of N numbers beside a text.
         let row = parse_row(text);
@@ -65,30 +88,33 @@ pub trait Line<const N: usize>: Copy {
     }
 
     fn append(&self, out: &mut Vec<u8>) -> Result<(), AllocError>
-        ensures ok { OnOk result (Put (Fit (told self.now)) (line (told self.now)) out.old.items out.new.items) }
-        ensures err { OnErr result (PutPart (line (told self.now)) out.old.items out.new.items) }
+        ensures ok { OnOk result (FitsLine (numbers self.now) × (out.new.items ≡ out.old.items ++ line (numbers self.now))) }
+        ensures err { OnErr result (out.new.items ≡ out.old.items) }
+        ensures full { OnErr result (vec_capacity out.old < vec_len out.old + length (line (numbers self.now))) }
+        ensures capacity { vec_capacity out.old ≤ vec_capacity out.new }
+        ensures same { self.exit.now ≡ self.entry.now }
     {
         append_row(out, &self.to_columns())
     }
 
     // An array of N numbers can stand in memory.
-    ghost few: { N * 4 < 2 ^ 63 };
+    ghost fits_memory: { N * 4 < 2 ^ 63 };
 
-    ghost counted: { (x : Self) → length (told x) ≡ N };
+    ghost has_count: { (x : Self) → length (numbers x) ≡ N };
 
-    ghost apart: { (x y : Self) → told x ≡ told y → x ≡ y };
+    ghost identified: { (x y : Self) → numbers x ≡ numbers y → x ≡ y };
 
-    ghost alike: { Alike told } = { record { count = N; counted = counted; apart = apart } };
+    ghost line_kind: { IsLineKind numbers } = { record { count = N; has_count = has_count; identified = identified } };
 }
 
 impl Line<1> for u32 {
-    ghost told = { value_numbers };
+    ghost numbers = { value_numbers };
 
-    ghost few = { Prim.search rules };
+    ghost fits_memory = { Prim.search rules };
 
-    ghost counted = { Prim.search rules };
+    ghost has_count = { Prim.search rules };
 
-    ghost apart = { Prim.search rules };
+    ghost identified = { Prim.search rules };
 
     fn from_columns(columns: &[u32; 1]) -> Option<u32> {
         Some(columns[0])
@@ -100,13 +126,13 @@ impl Line<1> for u32 {
 }
 
 impl Line<3> for Head {
-    ghost told = { head_numbers };
+    ghost numbers = { head_numbers };
 
-    ghost few = { Prim.search rules };
+    ghost fits_memory = { Prim.search rules };
 
-    ghost counted = { Prim.search rules };
+    ghost has_count = { Prim.search rules };
 
-    ghost apart = { Prim.search rules };
+    ghost identified = { Prim.search rules };
 
     fn from_columns(columns: &[u32; 3]) -> Option<Head> {
         Some(Head::from(*columns))
@@ -118,13 +144,13 @@ impl Line<3> for Head {
 }
 
 impl Line<4> for Node {
-    ghost told = { node_numbers };
+    ghost numbers = { node_numbers };
 
-    ghost few = { Prim.search rules };
+    ghost fits_memory = { Prim.search rules };
 
-    ghost counted = { Prim.search rules };
+    ghost has_count = { Prim.search rules };
 
-    ghost apart = { Prim.search rules };
+    ghost identified = { Prim.search rules };
 
     fn from_columns(columns: &[u32; 4]) -> Option<Node> {
         Some(Node::from(*columns))
@@ -135,11 +161,11 @@ impl Line<4> for Node {
     }
 }
 
-// Reads `count` lines from the front of a text, and keeps none. As a fold over the count it was
-// tried: the proof does not close.
+// Reads `count` lines from the front of a text, and keeps none.
 #[tactic(auto, using(crate::proofs::Rulings::skipped))]
 pub fn skip_lines<L: Line<N>, const N: usize>(text: &[u8], count: u32) -> Option<&[u8]>
-    ensures { Skipped L.Line.told count text.now result }
+    ensures skipped { SkipsLines L.Line.numbers count text.now result }
+    ensures same { text.exit.now ≡ text.entry.now }
 {
     let mut rest = text;
     for _ in 0..count {
@@ -148,17 +174,36 @@ pub fn skip_lines<L: Line<N>, const N: usize>(text: &[u8], count: u32) -> Option
     Some(rest)
 }
 
-// Writes the lines of a list behind what `out` holds.
-#[tactic(auto, using(crate::proofs::Rulings::lines_written))]
-pub fn append_lines<L: Line<N>, const N: usize>(
-    out: &mut Vec<u8>,
-    xs: &[L],
-) -> Result<(), AllocError>
-    ensures ok { OnOk result (Put (Fits L.Line.told xs.now) (lines L.Line.told xs.now) out.old.items out.new.items) }
-    ensures err { OnErr result (PutPart (lines L.Line.told xs.now) out.old.items out.new.items) }
+// Writes the lines of a list behind what `out` holds, or a part of them where memory runs out.
+#[tactic(auto, using(crate::proofs::Rulings::lines_pushed))]
+fn push_lines<L: Line<N>, const N: usize>(out: &mut Vec<u8>, xs: &[L]) -> Result<(), AllocError>
+    ensures ok { OnOk result (FitsLines L.Line.numbers xs.now × (out.new.items ≡ out.old.items ++ lines L.Line.numbers xs.now)) }
+    ensures err { OnErr result (take (vec_len out.old) out.new.items ≡ out.old.items) }
+    ensures full { OnErr result (vec_capacity out.old < vec_len out.old + length (lines L.Line.numbers xs.now)) }
+    ensures capacity { vec_capacity out.old ≤ vec_capacity out.new }
 {
     for x in xs {
         x.append(out)?;
     }
     Ok(())
+}
+
+// Writes the lines of a list behind what `out` holds. It fails only where `out` has too little room
+// for the lines, and then leaves what `out` holds.
+pub fn append_lines<L: Line<N>, const N: usize>(
+    out: &mut Vec<u8>,
+    xs: &[L],
+) -> Result<(), AllocError>
+    ensures ok { OnOk result (FitsLines L.Line.numbers xs.now × (out.new.items ≡ out.old.items ++ lines L.Line.numbers xs.now)) }
+    ensures err { OnErr result (out.new.items ≡ out.old.items) }
+    ensures full { OnErr result (vec_capacity out.old < vec_len out.old + length (lines L.Line.numbers xs.now)) }
+    ensures capacity { vec_capacity out.old ≤ vec_capacity out.new }
+    ensures same { xs.exit.now ≡ xs.entry.now }
+{
+    let len = out.len();
+    let pushed = push_lines(out, xs);
+    if pushed.is_err() {
+        out.truncate(len);
+    }
+    pushed
 }

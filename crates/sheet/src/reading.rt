@@ -1,8 +1,8 @@
-ghost use Rattle.sheet.specs.Columns.{Taken, line};
-ghost use Rattle.sheet.specs.Entries.{Allowed, head_numbers};
-ghost use Rattle.sheet.specs.Meaning.{Loaded, Read};
-ghost use Rattle.sheet.specs.Sheets.{Checked, One, Surveyed};
-ghost use Rattle.std.specs.Prelude.{Decides};
+ghost use Rattle.sheet.specs.Columns.{ParsesFront, line};
+ghost use Rattle.sheet.specs.Entries.{IsAllowedHead, head_numbers};
+ghost use Rattle.sheet.specs.Readings.{LoadsLines, ReadsSheet};
+ghost use Rattle.sheet.specs.Sheets.{ChecksSheet, FindsParts, WritingIsInjective};
+ghost use Rattle.std.specs.Prelude.{◌≡◌, Decides};
 
 use crate::error::ReadError;
 use crate::head::Head;
@@ -20,7 +20,7 @@ pub const MAX_VALUES: u32 = 1024;
 
 // Tells whether a head is within the limits.
 fn allowed(head: &Head) -> bool
-    ensures { Decides result (Allowed head.now) }
+    ensures { Decides result (IsAllowedHead head.now) }
 {
     matches!(head.width, 8 | 16 | 32) && head.nodes <= MAX_NODES && head.values <= MAX_VALUES
 }
@@ -28,7 +28,7 @@ fn allowed(head: &Head) -> bool
 // Reads the head's line from the front of a text, if it is within the limits.
 #[tactic(auto, using(crate::proofs::Pages::heads))]
 fn parse_head(text: &[u8]) -> Option<(Head, &[u8])>
-    ensures { Taken Allowed (λ h. line (head_numbers h)) text.now result }
+    ensures { ParsesFront IsAllowedHead (λ h. line (head_numbers h)) text.now result }
 {
     Head::parse(text).filter(|(head, _)| allowed(head))
 }
@@ -37,8 +37,8 @@ fn parse_head(text: &[u8]) -> Option<(Head, &[u8])>
 // other text.
 #[tactic(auto, using(crate::proofs::Pages::surveys))]
 fn survey(text: &[u8]) -> Option<(Head, &[u8], &[u8])>
-    ensures surveyed { Surveyed text.now result }
-    ensures one { One }
+    ensures surveyed { FindsParts text.now result }
+    ensures one { WritingIsInjective }
 {
     let (head, nodes) = parse_head(text)?;
     let values = skip_lines::<Node, 4>(nodes, head.nodes)?;
@@ -46,29 +46,30 @@ fn survey(text: &[u8]) -> Option<(Head, &[u8], &[u8])>
     end.is_empty().then_some((head, nodes, values))
 }
 
-// The clause `one` is a law of texts, which no type keeps, so each call that reads states it.
-
 // Checks that a text is a sheet's, and gives its head. It allocates nothing.
 #[tactic(auto, using(crate::proofs::Pages::checks))]
 pub fn check(text: &[u8]) -> Result<Head, ArchiveError>
-    ensures checked { Checked text.now result }
-    ensures one { One }
+    ensures checked { ChecksSheet text.now result }
+    ensures one { WritingIsInjective }
+    ensures same { text.exit.now ≡ text.entry.now }
 {
     survey(text)
         .map(|(head, _, _)| head)
         .ok_or(ArchiveError::SheetMalformed)
 }
 
-// Reads `count` lines from the front of a text. The loop counts no index and each turn pushes, so it
-// stays a `for`.
+// Reads `count` lines from the front of a text. It looks for all of them before it keeps one, so that
+// want of memory is answered only where they are there.
 #[tactic(auto, using(crate::proofs::Rulings::listed))]
 pub fn load_lines<L: Line<N>, const N: usize>(
     heap: Global,
     text: &[u8],
     count: u32,
 ) -> Result<Vec<L>, ReadError>
-    ensures { Loaded L.Line.told count text.now result }
+    ensures loaded { LoadsLines L.Line.numbers count text.now result }
+    ensures same { text.exit.now ≡ text.entry.now }
 {
+    skip_lines::<L, N>(text, count).ok_or(ArchiveError::SheetMalformed)?;
     let mut items = Vec::new(heap);
     let mut rest = text;
     for _ in 0..count {
@@ -82,8 +83,9 @@ pub fn load_lines<L: Line<N>, const N: usize>(
 // Reads a sheet. A text that is no sheet's is refused as such, whatever memory there is.
 #[tactic(auto, using(crate::proofs::Pages::readings))]
 pub fn read(heap: Global, text: &[u8]) -> Result<Sheet, ReadError>
-    ensures read { Read text.now result }
-    ensures one { One }
+    ensures read { ReadsSheet text.now result }
+    ensures one { WritingIsInjective }
+    ensures same { text.exit.now ≡ text.entry.now }
 {
     let (head, nodes, values) = survey(text).ok_or(ArchiveError::SheetMalformed)?;
     let nodes = load_lines::<Node, 4>(heap, nodes, head.nodes)?;

@@ -1,4 +1,4 @@
-ghost use Rattle.sheet.specs.Limits.{Limits};
+ghost use Rattle.sheet.specs.Limits.{AreWithinLimits};
 ghost use Rattle.std.specs.Prelude.{length};
 
 use nodes::node::Node;
@@ -9,5 +9,5 @@ pub struct Sheet {
     pub width: u32,
     pub nodes: Vec<Node>,
     pub values: Vec<u32>,
-    ghost limits: { Limits width (length nodes.items) (length values.items) },
+    ghost limits: { AreWithinLimits width (length nodes.items) (length values.items) },
 }

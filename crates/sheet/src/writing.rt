@@ -1,5 +1,5 @@
-ghost use Rattle.sheet.specs.Meaning.{meaning};
-ghost use Rattle.sheet.specs.Sheets.{Within, written};
+ghost use Rattle.sheet.specs.Readings.{contents_of};
+ghost use Rattle.sheet.specs.Sheets.{FitsSheet, sheet_text};
 ghost use Rattle.std.specs.Prelude.{◌≡◌, IfOk};
 
 use crate::line::{Line, append_lines};
@@ -9,8 +9,9 @@ use std::alloc::{AllocError, Global};
 
 // The text of a sheet.
 pub fn write(heap: Global, s: &Sheet) -> Result<Vec<u8>, AllocError>
-    ensures within { IfOk result (λ _. Within (meaning s.now)) }
-    ensures text { IfOk result (λ v. v.items ≡ written (meaning s.now)) }
+    ensures fits { IfOk result (λ _. FitsSheet (contents_of s.now)) }
+    ensures text { IfOk result (λ v. v.items ≡ sheet_text (contents_of s.now)) }
+    ensures same { s.exit.now ≡ s.entry.now }
 {
     let mut out = Vec::new(heap);
     s.head().append(&mut out)?;

@@ -1,4 +1,4 @@
--- A table that passes the test of a rule has the rule's mask at every level and four bits.
+-- A table that passes the test of a rule has the rule's mask at every tier and four bits.
 use Rattle.std.proofs.Common.{◌≡◌, ℕ, zero, suc, ◌+◌, ◌*◌, ◌/◌, ◌%◌, ◌<◌, ◌≤◌, Bool, T, eqb, List, [], ◌∷◌, length, get_or, ap, ◌∙◌, le_of_suc-le-suc, not-suc-le-zero, arith, eqb→eq}
 use Rattle.slots.proofs.Bits.{both_left, both_right}
 use Rattle.slots.specs.Masks.{mask, mask_below, follows, follows_from}
@@ -18,6 +18,6 @@ table_mask rule xs l v t h k =
     let b : (0 + (16 * l + v)) % 16 ≡ v = omega arith in
     entry_from rule xs 0 t (16 * l + v) k ∙ ap (λ (n : ℕ). mask (rule n ((0 + (16 * l + v)) % 16))) a ∙ ap (λ (n : ℕ). mask (rule l n)) b
 
--- a table of 80 entries, five levels of sixteen
+-- a table of 80 entries, five tiers of sixteen
 pub table_entry : (rule : ℕ → ℕ → ℕ → Bool) (xs : List ℕ) (l v : ℕ) → T (follows rule xs) → length xs ≡ 80 → l ≤ 4 → v < 16 → get_or xs (16 * l + v) 0 ≡ mask (rule l v)
 table_entry rule xs l v t e h k = table_mask rule xs l v t k (omega arith)

@@ -12,13 +12,6 @@ unfoldable pub lowest : ℕ → (ℕ → Bool) → Option ℕ
 lowest zero f = None
 lowest (suc k) f = option_or (lowest k f) (cond (f k) (Some k) None)
 
--- the last and the first level from 0 to n
-abbrev pub last_level : (ℕ → Bool) → ℕ → Option ℕ
-last_level f n = highest (suc n) f
-
-abbrev pub first_level : (ℕ → Bool) → ℕ → Option ℕ
-first_level f n = lowest (suc n) f
-
 -- what the highest and the lowest are
 abbrev pub IsHighest : ℕ → (ℕ → Bool) → Option ℕ → Type 0
 IsHighest k f None = (c : ℕ) → c < k → T (f c) → ⊥

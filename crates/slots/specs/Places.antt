@@ -1,11 +1,7 @@
 -- Where the value or the child of a bit stands.
-use Rattle.std.specs.Prelude.{ℕ, ◌+◌, ◌^◌, cond, ◌&&◌, Some, None, Option, nat_lt}
-use Rattle.nodes.specs.Bitmaps.{bit as is_set, ones_below}
+use Rattle.std.specs.Prelude.{ℕ, ◌^◌, cond, ◌&&◌, Some, None, Option, nat_lt}
+use Rattle.nodes.specs.Bitmaps.{bit as is_set, place_of}
 use Rattle.slots.specs.declared.loc.Loc.{Loc}
-
--- the place of a set bit, from the index where the bitmap's places begin
-abbrev pub place_of : ℕ → ℕ → ℕ → ℕ
-place_of bitmap first b = first + ones_below b bitmap
 
 -- a set bit whose place fits 32 bits has a location, and no other bit
 abbrev pub loc_of : ℕ → ℕ → ℕ → Option Loc

@@ -1,19 +1,24 @@
-// The highest and the lowest bit that a bitmap and a mask both have. The two differ in the number's
-// method that they call: a parameter for it would be longer than they are.
+// The highest and the lowest bit that a bitmap and a mask both have.
 ghost use Rattle.nodes.specs.Bitmaps.{bit};
-ghost use Rattle.slots.specs.Picks.{highest, lowest};
+ghost use Rattle.slots.specs.Picks.{IsHighest, IsLowest, highest, lowest};
 ghost use Rattle.std.specs.Prelude.{◌≡◌, ◌<◌, ◌&&◌, bit_and, IfSome};
 
+// The highest one.
+#[tactic(auto, using(crate::proofs::Picks::highest_is))]
 pub fn highest_common(bitmap: u32, mask: u32) -> Option<u32>
     ensures below { IfSome result (λ b. b < 32) }
     ensures bit { result ≡ highest 32 (λ b. bit bitmap b && bit mask b) }
+    ensures meaning { IsHighest 32 (λ b. bit bitmap b && bit mask b) result }
 {
     highest_bit(common(bitmap, mask))
 }
 
+// The lowest one.
+#[tactic(auto, using(crate::proofs::Picks::lowest_is))]
 pub fn lowest_common(bitmap: u32, mask: u32) -> Option<u32>
     ensures below { IfSome result (λ b. b < 32) }
     ensures bit { result ≡ lowest 32 (λ b. bit bitmap b && bit mask b) }
+    ensures meaning { IsLowest 32 (λ b. bit bitmap b && bit mask b) result }
 {
     lowest_bit(common(bitmap, mask))
 }

@@ -51,15 +51,18 @@ fn locate(bitmap: u32, first: u32, bit: u32) -> Option<Loc>
     Some(Loc { idx, bit })
 }
 
-// The values' side of a node, and below it the children's: the two differ in the fields that they read.
+// The location of a data bit's value.
 pub fn data_loc(node: &Node, bit: u32) -> Option<Loc>
-    ensures { result ≡ loc_of node.now.data_bitmap node.now.data_idx bit }
+    ensures loc { result ≡ loc_of node.now.data_bitmap node.now.data_idx bit }
+    ensures same { node.exit.now ≡ node.entry.now }
 {
     locate(node.data_bitmap, node.data_idx, bit)
 }
 
+// The location of a child bit's node.
 pub fn child_loc(node: &Node, bit: u32) -> Option<Loc>
-    ensures { result ≡ loc_of node.now.child_bitmap node.now.children_idx bit }
+    ensures loc { result ≡ loc_of node.now.child_bitmap node.now.children_idx bit }
+    ensures same { node.exit.now ≡ node.entry.now }
 {
     locate(node.child_bitmap, node.children_idx, bit)
 }

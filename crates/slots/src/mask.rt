@@ -23,18 +23,17 @@ impl Rule {
         self.at(len.saturating_sub(depth), next_four(key, depth))
     }
 
-    // The mask at a level and at four bits of a key: the last level where there is none so deep, and
+    // The mask at a tier and at four bits of a key: the last tier where there is none so deep, and
     // the last four bits of the number.
     #[tactic(auto, using(crate::proofs::Tables::table_entry))]
-    pub fn at(self, level: u32, four: u32) -> u32
-        ensures { result ≡ mask_of (rule_of self (min level 4) (four % 16)) }
+    pub fn at(self, tier: u32, four: u32) -> u32
+        ensures { result ≡ mask_of (rule_of self (min tier 4) (four % 16)) }
     {
         let table = self.table();
-        table[(16 * level.min(4) + four % 16) as usize]
+        table[(16 * tier.min(4) + four % 16) as usize]
     }
 
-    // The tables are constants, and the rule picks one. A function that is handed out in its place
-    // would be refused, and is no plainer.
+    // The rule's table.
     #[tactic(auto, unfolding(crate::specs::Masks::on_path, crate::specs::Masks::data_under, crate::specs::Masks::child_under))]
     fn table(self) -> &'static Pattern
         ensures { T (follows (rule_of self) result.now) }

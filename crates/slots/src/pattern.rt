@@ -1,9 +1,9 @@
-// The tables of masks, which are written out: a mask is looked up by its level and four bits.
+// The tables of masks, which are written out: a mask is looked up by its tier and four bits.
 
-// At 16 * level + v: the mask at this level and at the four bits v of the key after the node's depth.
+// At 16 * tier + v: the mask at this tier and at the four bits v of the key after the node's depth.
 pub(crate) type Pattern = [u32; 80];
 
-// The data bits on the path of v, down to the level.
+// The data bits on the path of v, down to the tier.
 pub(crate) const DATA_LPM_PATTERN: Pattern = [
     0x00000001, 0x00000001, 0x00000001, 0x00000001, 0x00000001, 0x00000001, 0x00000001, 0x00000001,
     0x00000001, 0x00000001, 0x00000001, 0x00000001, 0x00000001, 0x00000001, 0x00000001, 0x00000001,
@@ -17,7 +17,7 @@ pub(crate) const DATA_LPM_PATTERN: Pattern = [
     0x00800825, 0x01000825, 0x02001025, 0x04001025, 0x08002045, 0x10002045, 0x20004045, 0x40004045,
 ];
 
-// The data bits at the level or below it that have the first bits of v.
+// The data bits at the tier or below it that have the first bits of v.
 pub(crate) const DATA_COVER_PATTERN: Pattern = [
     0x7fffffff, 0x7fffffff, 0x7fffffff, 0x7fffffff, 0x7fffffff, 0x7fffffff, 0x7fffffff, 0x7fffffff,
     0x7fffffff, 0x7fffffff, 0x7fffffff, 0x7fffffff, 0x7fffffff, 0x7fffffff, 0x7fffffff, 0x7fffffff,
@@ -31,7 +31,7 @@ pub(crate) const DATA_COVER_PATTERN: Pattern = [
     0x00800000, 0x01000000, 0x02000000, 0x04000000, 0x08000000, 0x10000000, 0x20000000, 0x40000000,
 ];
 
-// The child bits that have the first bits of v, as many as the level.
+// The child bits that have the first bits of v, as many as the tier.
 pub(crate) const CHILD_COVER_PATTERN: Pattern = [
     0xffffffff, 0xffffffff, 0xffffffff, 0xffffffff, 0xffffffff, 0xffffffff, 0xffffffff, 0xffffffff,
     0xffffffff, 0xffffffff, 0xffffffff, 0xffffffff, 0xffffffff, 0xffffffff, 0xffffffff, 0xffffffff,

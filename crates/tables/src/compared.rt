@@ -8,21 +8,17 @@ pub fn add_one(count: &mut u64)
 }
 
 // How many answers were held to those of the table, and how many of them differ.
-#[derive(Clone, Copy, PartialEq, Eq, Debug)]
+#[derive(Clone, Copy)]
 pub struct Compared {
     pub answers: u64,
     pub differ: u64,
 }
 
 impl Compared {
-    pub fn new() -> Compared
-        ensures { (result.answers ≡ 0) × (result.differ ≡ 0) }
-    {
-        Compared {
-            answers: 0,
-            differ: 0,
-        }
-    }
+    pub const NONE: Compared = Compared {
+        answers: 0,
+        differ: 0,
+    };
 
     // Counts one answer, the same as the table's or not.
     pub fn count(&mut self, same: bool)
@@ -31,15 +27,7 @@ impl Compared {
     {
         add_one(&mut self.answers);
         if !same {
-            self.count_difference();
+            add_one(&mut self.differ);
         }
-    }
-
-    // Counts a difference beside the answers.
-    pub fn count_difference(&mut self)
-        ensures answers { self.new.answers ≡ self.old.answers }
-        ensures differ { self.new.differ ≡ min (self.old.differ + 1) (2 ^ 64 - 1) }
-    {
-        add_one(&mut self.differ);
     }
 }

@@ -3,7 +3,8 @@ ghost use Rattle.tables.specs.Words.{is_remark};
 
 // Whether the line is empty or begins with `#`: it is then no part of the table.
 pub fn is_remark(line: &str) -> bool
-    ensures { result ≡ is_remark line.now }
+    ensures value { result ≡ is_remark line.now }
+    ensures same { line.exit.now ≡ line.entry.now }
 {
     line.is_empty() || line.starts_with('#')
 }

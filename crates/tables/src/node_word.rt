@@ -9,11 +9,11 @@ use std::str::FromStr;
 use thiserror::Error;
 
 // A node as a word of a table: `DATA,CHILD,DATAINDEX,CHILDRENINDEX`.
-#[derive(Clone, Copy, PartialEq, Eq, Debug)]
+#[derive(Clone, Copy)]
 pub struct NodeWord(pub Node);
 
 // Why a word is no node.
-#[derive(PartialEq, Eq, Debug, Drop, Error)]
+#[derive(Debug, Drop, Error)]
 pub enum NodeWordError {
     #[error("{0}")]
     Number(ParseIntError),
@@ -27,7 +27,6 @@ pub enum NodeWordError {
     MoreThanFour,
 }
 
-// By hand, as what a derive writes has no contract, and `from_str` names the error.
 impl From<ParseIntError> for NodeWordError {
     ghost from_gives = { λ e r. r ≡ Number e };
 

@@ -7,7 +7,7 @@ use crate::width::Width;
 use std::fmt;
 
 // A count for each width.
-#[derive(Clone, Copy, PartialEq, Eq, Debug)]
+#[derive(Clone, Copy)]
 pub struct Row {
     bits8: u64,
     bits16: u64,
@@ -38,9 +38,10 @@ impl Row {
 }
 
 // The place of the first key that equals this one: what is counted under the key stands beside it.
-pub fn place_of<K: PartialEq, C>(counts: &[(K, C)], key: &K) -> Option<usize>
+pub fn position_of<K: PartialEq, C>(counts: &[(K, C)], key: &K) -> Option<usize>
     ensures first { result ≡ position (λ x. K.eq x.0 key.now) counts.now }
     ensures inside { MatchOption result ⊤ (λ i. i < length counts.now) }
+    ensures same { (counts.exit.now ≡ counts.entry.now) × (key.exit.now ≡ key.entry.now) }
 {
     counts.iter().position(|(of, _)| of == key)
 }

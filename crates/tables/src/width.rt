@@ -5,7 +5,7 @@ use std::str::FromStr;
 use thiserror::Error;
 
 // The width of a key in bits.
-#[derive(Clone, Copy, PartialEq, Eq, Debug)]
+#[derive(Clone, Copy)]
 pub enum Width {
     Bits8,
     Bits16,
@@ -14,7 +14,7 @@ pub enum Width {
 }
 
 // A word that is no width.
-#[derive(Clone, Copy, PartialEq, Eq, Debug, Error)]
+#[derive(Clone, Copy, Debug, Error)]
 #[error("a width is 8, 16, 32 or 64")]
 pub struct NoWidth;
 

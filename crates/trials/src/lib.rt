@@ -118,6 +118,93 @@ mod sheets {
 }
 
 #[cfg(test)]
+mod writing {
+    use coverage::AddressCount;
+    use judge::judge;
+    use judge::report::Report;
+    use nodes::error::{ArchiveError, NoSuchFault};
+    use sheet::error::ReadError;
+    use sheet::head::Head;
+    use sheet::line::{append_lines, append_row};
+    use sheet::reading::read;
+    use sheet::writing::write;
+    use std::fmt::Write;
+    use std::test::Fail;
+
+    // Node `i` of 512 under keys of 16 bits. The root has all its children; of these the first 14
+    // have all theirs and one value, the next has all but one and one value, and the others have
+    // three values; and their children have two.
+    fn node(i: u16) -> [u32; 4] {
+        let i = u32::from(i);
+        match i {
+            0 => [0, u32::MAX, 0, 1],
+            1..=14 => [1 << 30, u32::MAX, i - 1, 32 * i + 1],
+            15 => [1 << 30, u32::MAX >> 1, 14, 481],
+            16..=32 => [7 << 15, 0, 3 * (i - 16) + 15, 512],
+            _ => [3 << 15, 0, 2 * (i - 33) + 66, 512],
+        }
+    }
+
+    // A line as std pads it.
+    fn push_line(text: &mut String, numbers: &[u32]) -> Result<(), Fail> {
+        for n in numbers {
+            write!(text, "{n:>11}")?;
+        }
+        text.push('\n')?;
+        Ok(())
+    }
+
+    #[test]
+    fn largest_sheet(rt: HostRuntime) -> Result<(), Fail> {
+        let mut text = String::new(rt.alloc());
+        push_line(&mut text, &[16, 512, 1024])?;
+        for i in 0..512 {
+            push_line(&mut text, &node(i))?;
+        }
+        for i in 0..1024 {
+            push_line(&mut text, &[u32::MAX - i])?;
+        }
+        let Ok(sheet) = read(rt.alloc(), text.as_bytes()) else {
+            return Err(Fail::new("not read"));
+        };
+        let written = write(rt.alloc(), &sheet)?;
+        assert!(rt; written.as_slice() == text.as_bytes());
+        let report = Report {
+            head: Head {
+                width: 16,
+                nodes: 512,
+                values: 1024,
+            },
+            addresses: AddressCount::Number(12048),
+        };
+        assert_eq!(rt; judge(rt.alloc(), written.as_slice()), Ok(report));
+        Ok(())
+    }
+
+    #[test]
+    fn appended_lines(rt: HostRuntime) -> Result<(), Fail> {
+        let mut text = Vec::new(rt.alloc());
+        append_row(&mut text, &[4294967295, 0, 4294967295, 1000000000])?;
+        append_lines::<u32, 1>(&mut text, &[7, 4294967295])?;
+        let lines = " 4294967295          0 4294967295 1000000000\n          7\n 4294967295\n";
+        assert!(rt; text.as_slice() == lines.as_bytes());
+        Ok(())
+    }
+
+    #[test]
+    fn texts_of_errors(rt: HostRuntime) -> Result<(), Fail> {
+        let alloc = rt.alloc();
+        let unread = ReadError::Fault(ArchiveError::SheetMalformed);
+        let unknown = NoSuchFault(u32::MAX);
+        assert_eq!(rt;
+            format!(in alloc; "{unread}; {}; {unknown}", ReadError::OutOfMemory)?.as_str(),
+            "SheetMalformed: the sheet is not in its form; out of memory; no fault has the number 4294967295"
+        );
+        Ok(())
+    }
+}
+
+#[cfg(test)]
 mod images {
     use accept::accept::accept;
     use accept::image::Image;

@@ -2,12 +2,12 @@
 use Rattle.std.proofs.Common.{◌≡◌, ℕ, ◌<◌, true, false, T}
 use Rattle.nodes.specs.Bitmaps.{bit}
 use Rattle.coverage.proofs.Covers.{child_covered}
-use Rattle.coverage.specs.Slots.{Within}
+use Rattle.coverage.specs.Slots.{BitsWithin}
 use Rattle.coverage.proofs.block.+bit_covered.Given as goal
 
 abbrev pub invariant-loop-child : goal.invariant-loop-child
 invariant-loop-child l =
-    Within l.left l.initial.left
+    BitsWithin l.left l.initial.left
     × ((c : ℕ) → c < 32 → T (bit l.initial.left c) → bit l.left c ≡ false → child_covered l.nodes l.at l.rest c ≡ true)
 
 abbrev pub decreases-loop-child : goal.decreases-loop-child

@@ -1,6 +1,6 @@
 -- No entry was met on the way so far.
 use Rattle.std.proofs.Common.{◌≡◌, ◌+◌, ◌-◌}
-use Rattle.matches.proofs.Ways.{none_below}
+use Rattle.descent.proofs.Ways.{none_below}
 use Rattle.coverage.proofs.block.block_covered.Given as goal
 
 abbrev pub invariant-loop-cursor : goal.invariant-loop-cursor

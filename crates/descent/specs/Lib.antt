@@ -1,0 +1,2 @@
+pub mod Way
+pub mod Searches

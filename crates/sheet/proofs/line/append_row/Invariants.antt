@@ -1,7 +1,0 @@
-use Rattle.std.proofs.Common.{◌≡◌, ◌++◌, take, vec_items}
-use Rattle.std.specs.List.{flat_map}
-use Rattle.sheet.specs.Columns.{column}
-use Rattle.sheet.proofs.line.append_row.Given as goal
-
-abbrev pub invariant-loop-n : goal.invariant-loop-n
-invariant-loop-n l = vec_items l.out ≡ vec_items l.initial.out ++ flat_map column (take l.n-index l.columns)
