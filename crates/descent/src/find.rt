@@ -124,6 +124,7 @@ impl<'a> Cursor<'a> {
     }
 
     // The node that the key's next five bits lead to, where the length goes so far and the child is there.
+    #[inline(always)]
     #[tactic(auto, using(crate::proofs::Nodes::child_here, crate::proofs::Nodes::child_past))]
     pub fn child(&self) -> Option<Cursor<'a>>
         ensures same { self.exit.now ≡ self.entry.now }

@@ -20,7 +20,6 @@ use nodes::error::ArchiveError;
 use prefix::Prefix;
 
 // The place of the entry with the query's block.
-#[inline(always)]
 #[tactic(auto, using(requests::proofs::Refusals::refused_too, crate::proofs::Images::image_matches))]
 pub fn get<P: Prefix, T>(image: &Image<T>, q: &P) -> Result<Option<u32>, ArchiveError>
     ensures entry { outcome number result ≡ unless_refused (refusal (width_of image.now) P.R.Key.width (P.Prefix.shown q.now)) (entry_place (exact (shown_block (width_of image.now) P.Prefix.raw P.Prefix.shown q.now) (register_of image.now))) }

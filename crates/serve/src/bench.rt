@@ -110,9 +110,14 @@ impl<'a, K: Key + Drop> Bench<'a, K> {
     // A pass takes the answers into the tally one after another, or answers the first fault. Nothing is
     // allocated.
     fn pass_exact<T: Tally>(&self, queries: &[Pair<K>], start: T) -> Result<T, ArchiveError> {
+        let image = &self.image;
         let mut tally = start;
         for query in queries {
-            tally = tally.with(self.exact(query)?);
+            let answer = match get(image, query)? {
+                None => None,
+                Some(place) => Some(Answer::Value(*value(image, place)?)),
+            };
+            tally = tally.with(answer);
         }
         Ok(tally)
     }
@@ -178,14 +183,6 @@ impl<'a, K: Key + Drop> Bench<'a, K> {
 
     // Without the hint a call of a key stays a call, and a pass takes up to half as many instructions
     // again.
-    #[inline(always)]
-    fn exact(&self, query: &Pair<K>) -> Result<Option<Answer>, ArchiveError> {
-        match get(&self.image, query)? {
-            None => Ok(None),
-            Some(place) => self.value_at(place),
-        }
-    }
-
     #[inline(always)]
     fn longest(&self, key: K) -> Result<Option<Answer>, ArchiveError> {
         match get_lpm(&self.image, &whole(key))? {
