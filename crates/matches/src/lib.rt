@@ -3,7 +3,7 @@
 
 ghost use Rattle.std.specs.Prelude.{◌≡◌, ◌≤◌, IfOk, IfSome, slice_get};
 ghost use Rattle.accept.specs.Images.{nodes_of, values_of, width_of};
-ghost use Rattle.descent.specs.Way.{entry_of};
+ghost use Rattle.descent.specs.Way.{entry_of, longest_on, place_on, shortest_on};
 ghost use Rattle.keys.specs.Blocks.{block_of};
 ghost use Rattle.nodes.specs.Faults.{number, outcome};
 ghost use Rattle.register.specs.Entries.{exact, longest, shortest};
@@ -27,7 +27,7 @@ pub fn get<P: Prefix, T>(image: &Image<T>, q: &P) -> Result<Option<u32>, Archive
     ensures same { (image.exit.now ≡ image.entry.now) × (q.exit.now ≡ q.entry.now) }
 {
     let query = Search::new(image, q)?;
-    Ok(query.exact())
+    Ok(exact_place(&query))
 }
 
 // The longest entry that contains the query's block, as a prefix of the query's kind, and its place.
@@ -40,7 +40,7 @@ pub fn get_lpm<P: Prefix, T>(image: &Image<T>, q: &P) -> Result<Option<(P, u32)>
     ensures same { (image.exit.now ≡ image.entry.now) × (q.exit.now ≡ q.entry.now) }
 {
     let query = Search::new(image, q)?;
-    Ok(made(q, query.longest()))
+    Ok(made(q, longest_found(&query)))
 }
 
 // The shortest entry that contains the query's block, as a prefix of the query's kind, and its place.
@@ -53,7 +53,29 @@ pub fn get_spm<P: Prefix, T>(image: &Image<T>, q: &P) -> Result<Option<(P, u32)>
     ensures same { (image.exit.now ≡ image.entry.now) × (q.exit.now ≡ q.entry.now) }
 {
     let query = Search::new(image, q)?;
-    Ok(made(q, query.shortest()))
+    Ok(made(q, shortest_found(&query)))
+}
+
+// What the three searches find, by the key's first bits.
+#[inline(always)]
+fn exact_place(query: &Search) -> Option<u32>
+    ensures place { result ≡ place_on query.now.key.width query.now.nodes.now query.now.key.bits query.now.len }
+{
+    query.exact()
+}
+
+#[inline(always)]
+fn longest_found(query: &Search) -> Option<Found>
+    ensures found { result ≡ longest_on query.now.key.width query.now.nodes.now query.now.key.bits query.now.len }
+{
+    query.longest()
+}
+
+#[inline(always)]
+fn shortest_found(query: &Search) -> Option<Found>
+    ensures found { result ≡ shortest_on query.now.key.width query.now.nodes.now query.now.key.bits query.now.len }
+{
+    query.shortest()
 }
 
 // What was found: the query cut to its length, and its place.

@@ -5,4 +5,4 @@ use Rattle.matches.proofs.get.Goals as goal
 pub returns-clause-entry : goal.returns-clause-entry
 returns-clause-entry g c =
     exact_answer c.args.image.now g.P.R.Key.width (g.P.Prefix.raw c.args.q.now) (g.P.Prefix.shown c.args.q.now) c.in_ok-query.query c.in_ok-query.ensures.sought
-    c.exact.result c.exact.ensures.place
+    c.exact_place.result c.exact_place.ensures.place

@@ -5,9 +5,9 @@ use Rattle.matches.proofs.get_lpm.Goals as goal
 pub made-requires : goal.made-requires
 made-requires g c =
     longest_within c.args.image.now g.P.R.Key.width (g.P.Prefix.raw c.args.q.now) (g.P.Prefix.shown c.args.q.now) c.in_ok-query.query c.in_ok-query.ensures.sought
-    c.longest.result c.longest.ensures.found
+    c.longest_found.result c.longest_found.ensures.found
 
 pub returns-clause-entry : goal.returns-clause-entry
 returns-clause-entry g c =
     longest_answer c.args.image.now g.P.R.Key.width (g.P.Prefix.raw c.args.q.now) (g.P.Prefix.shown c.args.q.now) c.in_ok-query.query c.in_ok-query.ensures.sought
-    g.P.Prefix.raw g.P.Prefix.shown c.longest.result c.made.result c.made.ensures.block c.longest.ensures.found
+    g.P.Prefix.raw g.P.Prefix.shown c.longest_found.result c.made.result c.made.ensures.block c.longest_found.ensures.found

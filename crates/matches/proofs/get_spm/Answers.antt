@@ -5,9 +5,9 @@ use Rattle.matches.proofs.get_spm.Goals as goal
 pub made-requires : goal.made-requires
 made-requires g c =
     shortest_within c.args.image.now g.P.R.Key.width (g.P.Prefix.raw c.args.q.now) (g.P.Prefix.shown c.args.q.now) c.in_ok-query.query c.in_ok-query.ensures.sought
-    c.shortest.result c.shortest.ensures.found
+    c.shortest_found.result c.shortest_found.ensures.found
 
 pub returns-clause-entry : goal.returns-clause-entry
 returns-clause-entry g c =
     shortest_answer c.args.image.now g.P.R.Key.width (g.P.Prefix.raw c.args.q.now) (g.P.Prefix.shown c.args.q.now) c.in_ok-query.query c.in_ok-query.ensures.sought
-    g.P.Prefix.raw g.P.Prefix.shown c.shortest.result c.made.result c.made.ensures.block c.shortest.ensures.found
+    g.P.Prefix.raw g.P.Prefix.shown c.shortest_found.result c.made.result c.made.ensures.block c.shortest_found.ensures.found
