@@ -1,20 +1,22 @@
-// Answers, of the table and of the library. A word that is none has no reading.
+// Answers, of the table and of the library.
 ghost use Rattle.std.specs.Prelude.{◌≡◌, true};
 ghost use Rattle.std.proofs.Common.{rules};
 
+use anyhow::{Context, bail};
 use coverage::AddressCount;
 use keys::Key;
 use nodes::error::{ArchiveError, NoSuchFault};
 use prefix::Prefix;
 use std::fmt;
+use std::num::ParseIntError;
 
 // A refusal as the table names it: the fault with this number, or a number that no fault has.
 #[derive(Clone, Copy, PartialEq, Eq)]
 pub struct Refusal(pub Result<ArchiveError, NoSuchFault>);
 
 impl Refusal {
-    pub(crate) fn parse(word: &str) -> Option<Refusal> {
-        Some(Refusal(ArchiveError::try_from(word.parse::<u32>().ok()?)))
+    pub(crate) fn parse(word: &str) -> Result<Refusal, ParseIntError> {
+        Ok(Refusal(ArchiveError::try_from(word.parse::<u32>()?)))
     }
 }
 
@@ -61,7 +63,7 @@ impl fmt::Display for Entry {
 
 // What a call finds, a place or an entry.
 pub trait Found: Copy + Eq + fmt::Display + Drop {
-    fn parse(word: &str) -> Option<Self>;
+    fn parse(word: &str) -> anyhow::Result<Self>;
 
     // The place that it names.
     fn place(&self) -> u32;
@@ -73,8 +75,8 @@ pub trait Found: Copy + Eq + fmt::Display + Drop {
 impl Found for u32 {
     ghost same = { Prim.search rules };
 
-    fn parse(word: &str) -> Option<u32> {
-        word.parse::<u32>().ok()
+    fn parse(word: &str) -> anyhow::Result<u32> {
+        Ok(word.parse::<u32>()?)
     }
 
     fn place(&self) -> u32 {
@@ -86,13 +88,15 @@ impl Found for u32 {
 impl Found for Entry {
     ghost same = { Prim.search rules };
 
-    fn parse(word: &str) -> Option<Entry> {
-        let (block, place) = word.split_once('@')?;
-        let (address, len) = block.split_once('/')?;
-        Some(Entry {
-            address: address.parse::<u64>().ok()?,
-            len: len.parse::<u8>().ok()?,
-            place: place.parse::<u32>().ok()?,
+    fn parse(word: &str) -> anyhow::Result<Entry> {
+        let (block, place) = word
+            .split_once('@')
+            .context("an entry is ADDRESS/LEN@PLACE")?;
+        let (address, len) = block.split_once('/').context("a block is ADDRESS/LEN")?;
+        Ok(Entry {
+            address: address.parse::<u64>()?,
+            len: len.parse::<u8>()?,
+            place: place.parse::<u32>()?,
         })
     }
 
@@ -107,10 +111,10 @@ pub struct Answer<T>(pub Result<Option<T>, Refusal>);
 
 impl<T: Found> Answer<T> {
     // `none`, or what is found
-    pub(crate) fn parse(word: &str) -> Option<Answer<T>> {
+    pub(crate) fn parse(word: &str) -> anyhow::Result<Answer<T>> {
         match word {
-            "none" => Some(Answer(Ok(None))),
-            _ => Some(Answer(Ok(Some(T::parse(word)?)))),
+            "none" => Ok(Answer(Ok(None))),
+            _ => Ok(Answer(Ok(Some(T::parse(word)?)))),
         }
     }
 }
@@ -158,11 +162,11 @@ impl<T: Found> Answered for Answer<T> {
 pub struct Coverage(pub Result<bool, Refusal>);
 
 impl Coverage {
-    pub(crate) fn parse(word: &str) -> Option<Coverage> {
+    pub(crate) fn parse(word: &str) -> anyhow::Result<Coverage> {
         match word {
-            "1" => Some(Coverage(Ok(true))),
-            "0" => Some(Coverage(Ok(false))),
-            _ => None,
+            "1" => Ok(Coverage(Ok(true))),
+            "0" => Ok(Coverage(Ok(false))),
+            _ => bail!("a block is covered, 1, or not, 0"),
         }
     }
 }
@@ -193,10 +197,10 @@ impl Answered for Coverage {
 pub struct Count(pub AddressCount);
 
 impl Count {
-    pub(crate) fn parse(word: &str) -> Option<Count> {
+    pub(crate) fn parse(word: &str) -> Result<Count, ParseIntError> {
         match word {
-            "whole" => Some(Count(AddressCount::Whole)),
-            _ => Some(Count(AddressCount::Number(word.parse::<u64>().ok()?))),
+            "whole" => Ok(Count(AddressCount::Whole)),
+            _ => Ok(Count(AddressCount::Number(word.parse::<u64>()?))),
         }
     }
 }

@@ -49,7 +49,7 @@ impl<'a> Reader<'a> {
             .open
             .as_mut()
             .context("a query before the first image")?;
-        let question = Question::parse(section.width, text).context("no query")?;
+        let question = Question::parse(section.width, text)?;
         Ok(section.push(self.line, question)?)
     }
 

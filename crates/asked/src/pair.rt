@@ -1,6 +1,8 @@
 // A pair of a key of some width and a length, `KEY/LEN`.
+use anyhow::Context;
 use prefix::pair::Pair;
 use prefix::span::Span;
+use std::num::ParseIntError;
 use tables::width::Width;
 
 #[derive(Clone, Copy)]
@@ -13,27 +15,28 @@ pub enum AnyPair {
 
 impl AnyPair {
     // Not `FromStr`, which takes no width. A width picks a type parameter, which takes an arm for each.
-    pub(crate) fn parse(width: Width, word: &str) -> Option<AnyPair> {
-        let (key, len) = word.split_once('/')?;
-        AnyPair::new(width, key, len.parse::<u8>().ok()?)
+    pub(crate) fn parse(width: Width, word: &str) -> anyhow::Result<AnyPair> {
+        let (key, len) = word.split_once('/').context("a pair is KEY/LEN")?;
+        let len = len.parse::<u8>()?;
+        Ok(AnyPair::new(width, key, len)?)
     }
 
-    fn new(width: Width, key: &str, len: u8) -> Option<AnyPair> {
+    fn new(width: Width, key: &str, len: u8) -> Result<AnyPair, ParseIntError> {
         match width {
-            Width::Bits8 => Some(AnyPair::Bits8(Pair {
-                repr: key.parse().ok()?,
+            Width::Bits8 => Ok(AnyPair::Bits8(Pair {
+                repr: key.parse()?,
                 len,
             })),
-            Width::Bits16 => Some(AnyPair::Bits16(Pair {
-                repr: key.parse().ok()?,
+            Width::Bits16 => Ok(AnyPair::Bits16(Pair {
+                repr: key.parse()?,
                 len,
             })),
-            Width::Bits32 => Some(AnyPair::Bits32(Pair {
-                repr: key.parse().ok()?,
+            Width::Bits32 => Ok(AnyPair::Bits32(Pair {
+                repr: key.parse()?,
                 len,
             })),
-            Width::Bits64 => Some(AnyPair::Bits64(Pair {
-                repr: key.parse().ok()?,
+            Width::Bits64 => Ok(AnyPair::Bits64(Pair {
+                repr: key.parse()?,
                 len,
             })),
         }

@@ -7,6 +7,7 @@
 // `count COUNT`, the number of addresses that the crate gives, or `whole`.
 use crate::answer::{Answer, Count, Coverage, Entry, Refusal};
 use crate::pair::AnyPair;
+use anyhow::{Context, bail, ensure};
 use std::str::SplitAsciiWhitespace;
 use tables::width::Width;
 
@@ -39,18 +40,20 @@ pub enum Question {
 
 impl Question {
     // A pair without a width of its own has that of the image. Not `FromStr`, which takes no width.
-    pub(crate) fn parse(width: Width, text: &str) -> Option<Question> {
-        let (name, rest) = text.split_once(' ')?;
+    pub(crate) fn parse(width: Width, text: &str) -> anyhow::Result<Question> {
+        let (name, rest) = text.split_once(' ').context("a query has several words")?;
         let mut words = rest.split_ascii_whitespace();
         let question = named(name, width, &mut words)?;
-        match words.next() {
-            None => Some(question),
-            Some(_) => None,
-        }
+        ensure!(words.next().is_none(), "a word too many");
+        Ok(question)
     }
 }
 
-fn named(name: &str, width: Width, words: &mut SplitAsciiWhitespace<'_>) -> Option<Question> {
+fn named(
+    name: &str,
+    width: Width,
+    words: &mut SplitAsciiWhitespace<'_>,
+) -> anyhow::Result<Question> {
     match name {
         "ask" => matched(width, words),
         "refuse" => refused(words),
@@ -58,17 +61,17 @@ fn named(name: &str, width: Width, words: &mut SplitAsciiWhitespace<'_>) -> Opti
         "refuse-value" => refused_value(words),
         "covered" => covered(width, words),
         "refuse-covered" => refused_coverage(words),
-        "count" => Some(Question::Count(Count::parse(words.next()?)?)),
-        _ => None,
+        "count" => counted(words),
+        _ => bail!("a query is ask, refuse, value, refuse-value, covered, refuse-covered or count"),
     }
 }
 
-fn matched(width: Width, words: &mut SplitAsciiWhitespace<'_>) -> Option<Question> {
-    let pair = AnyPair::parse(width, words.next()?)?;
-    let exact = Answer::parse(words.next()?)?;
-    let longest = Answer::parse(words.next()?)?;
-    let shortest = Answer::parse(words.next()?)?;
-    Some(Question::Match(
+fn matched(width: Width, words: &mut SplitAsciiWhitespace<'_>) -> anyhow::Result<Question> {
+    let pair = AnyPair::parse(width, words.next().context("no pair")?)?;
+    let exact = Answer::parse(words.next().context("no exact match")?)?;
+    let longest = Answer::parse(words.next().context("no longest match")?)?;
+    let shortest = Answer::parse(words.next().context("no shortest match")?)?;
+    Ok(Question::Match(
         pair,
         Answers {
             exact,
@@ -78,34 +81,41 @@ fn matched(width: Width, words: &mut SplitAsciiWhitespace<'_>) -> Option<Questio
     ))
 }
 
-fn covered(width: Width, words: &mut SplitAsciiWhitespace<'_>) -> Option<Question> {
-    let pair = AnyPair::parse(width, words.next()?)?;
-    Some(Question::Coverage(pair, Coverage::parse(words.next()?)?))
+fn covered(width: Width, words: &mut SplitAsciiWhitespace<'_>) -> anyhow::Result<Question> {
+    let pair = AnyPair::parse(width, words.next().context("no pair")?)?;
+    let coverage = Coverage::parse(words.next().context("no answer")?)?;
+    Ok(Question::Coverage(pair, coverage))
 }
 
-fn value(words: &mut SplitAsciiWhitespace<'_>) -> Option<Question> {
-    let place = words.next()?.parse::<u32>().ok()?;
-    Some(Question::Value(place, Answer(Ok(Some(place)))))
+fn counted(words: &mut SplitAsciiWhitespace<'_>) -> anyhow::Result<Question> {
+    Ok(Question::Count(Count::parse(words.next().context("no count")?)?))
 }
 
-fn refused_value(words: &mut SplitAsciiWhitespace<'_>) -> Option<Question> {
-    let place = words.next()?.parse::<u32>().ok()?;
-    Some(Question::Value(place, Answer(Err(Refusal::parse(words.next()?)?))))
+fn value(words: &mut SplitAsciiWhitespace<'_>) -> anyhow::Result<Question> {
+    let place = words.next().context("no place")?.parse::<u32>()?;
+    Ok(Question::Value(place, Answer(Ok(Some(place)))))
+}
+
+fn refused_value(words: &mut SplitAsciiWhitespace<'_>) -> anyhow::Result<Question> {
+    let place = words.next().context("no place")?.parse::<u32>()?;
+    let refusal = Refusal::parse(words.next().context("no fault")?)?;
+    Ok(Question::Value(place, Answer(Err(refusal))))
 }
 
 // A pair with its width, and its refusal.
-fn refused_pair(words: &mut SplitAsciiWhitespace<'_>) -> Option<(AnyPair, Refusal)> {
-    let width = words.next()?.parse::<Width>().ok()?;
-    let pair = AnyPair::parse(width, words.next()?)?;
-    Some((pair, Refusal::parse(words.next()?)?))
+fn refused_pair(words: &mut SplitAsciiWhitespace<'_>) -> anyhow::Result<(AnyPair, Refusal)> {
+    let width = words.next().context("no width")?.parse::<Width>()?;
+    let pair = AnyPair::parse(width, words.next().context("no pair")?)?;
+    let refusal = Refusal::parse(words.next().context("no fault")?)?;
+    Ok((pair, refusal))
 }
 
-fn refused(words: &mut SplitAsciiWhitespace<'_>) -> Option<Question> {
+fn refused(words: &mut SplitAsciiWhitespace<'_>) -> anyhow::Result<Question> {
     let (pair, refusal) = refused_pair(words)?;
-    Some(Question::Match(pair, Answers::from(refusal)))
+    Ok(Question::Match(pair, Answers::from(refusal)))
 }
 
-fn refused_coverage(words: &mut SplitAsciiWhitespace<'_>) -> Option<Question> {
+fn refused_coverage(words: &mut SplitAsciiWhitespace<'_>) -> anyhow::Result<Question> {
     let (pair, refusal) = refused_pair(words)?;
-    Some(Question::Coverage(pair, Coverage(Err(refusal))))
+    Ok(Question::Coverage(pair, Coverage(Err(refusal))))
 }

@@ -28,7 +28,7 @@ impl Section {
     // The words behind `image`. Not `FromStr`, which takes no allocator and no line.
     pub(crate) fn parse(alloc: Global, line: u64, text: &str) -> anyhow::Result<Section> {
         let mut words = text.split_ascii_whitespace();
-        let (width, count) = head(&mut words).context("no width and number of values")?;
+        let (width, count) = head(&mut words)?;
         Ok(Section {
             line,
             width,
@@ -43,9 +43,11 @@ impl Section {
     }
 }
 
-fn head(words: &mut SplitAsciiWhitespace<'_>) -> Option<(Width, u32)> {
-    let width = words.next()?.parse::<Width>().ok()?;
-    Some((width, words.next()?.parse::<u32>().ok()?))
+// The width, and the number of values.
+fn head(words: &mut SplitAsciiWhitespace<'_>) -> anyhow::Result<(Width, u32)> {
+    let width = words.next().context("no width")?.parse::<Width>()?;
+    let count = words.next().context("no number of values")?.parse::<u32>()?;
+    Ok((width, count))
 }
 
 // The nodes that the words are.

@@ -1,4 +1,5 @@
 // What is said of two lists, `ok` or the number of a fault of acceptance.
+use anyhow::bail;
 use nodes::error::ArchiveError;
 use std::fmt;
 
@@ -21,13 +22,13 @@ pub(crate) const FAULTS: [ArchiveError; 11] = [
 pub struct Answer(pub Result<(), ArchiveError>);
 
 impl Answer {
-    pub(crate) fn parse(word: &str) -> Option<Answer> {
+    pub(crate) fn parse(word: &str) -> anyhow::Result<Answer> {
         if word == "ok" {
-            return Some(Answer(Ok(())));
+            return Ok(Answer(Ok(())));
         }
-        match ArchiveError::try_from(word.parse::<u32>().ok()?) {
-            Ok(fault) if FAULTS.contains(&fault) => Some(Answer(Err(fault))),
-            _ => None,
+        match ArchiveError::try_from(word.parse::<u32>()?) {
+            Ok(fault) if FAULTS.contains(&fault) => Ok(Answer(Err(fault))),
+            _ => bail!("a fault is a number from 1 to 11"),
         }
     }
 }

@@ -19,7 +19,7 @@ impl Case {
     // Not `FromStr`, which takes no allocator.
     pub(crate) fn parse(alloc: Global, line: &str) -> anyhow::Result<Case> {
         let mut words = line.split_ascii_whitespace();
-        let (width, answer, values) = head(&mut words).context("no width, answer and number")?;
+        let (width, answer, values) = head(&mut words)?;
         Ok(Case {
             width,
             answer,
@@ -29,18 +29,18 @@ impl Case {
     }
 }
 
-fn head(words: &mut SplitAsciiWhitespace<'_>) -> Option<(Width, Answer, usize)> {
-    let width = words.next()?.parse::<Width>().ok()?;
-    let answer = Answer::parse(words.next()?)?;
-    Some((width, answer, words.next()?.parse::<usize>().ok()?))
+// The width, the answer, and the number of values.
+fn head(words: &mut SplitAsciiWhitespace<'_>) -> anyhow::Result<(Width, Answer, usize)> {
+    let width = words.next().context("no width")?.parse::<Width>()?;
+    let answer = Answer::parse(words.next().context("no answer")?)?;
+    let values = words.next().context("no number of values")?;
+    Ok((width, answer, values.parse::<usize>()?))
 }
 
 fn nodes_of(alloc: Global, words: SplitAsciiWhitespace<'_>) -> anyhow::Result<Vec<Node>> {
     let mut nodes = Vec::new(alloc);
     for word in words {
-        Run::parse(word)
-            .context("a word that is no nodes")?
-            .push_to(&mut nodes)?;
+        Run::parse(word)?.push_to(&mut nodes)?;
     }
     Ok(nodes)
 }

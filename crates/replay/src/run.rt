@@ -14,15 +14,15 @@ pub struct Run {
 }
 
 impl Run {
-    pub(crate) fn parse(word: &str) -> Option<Run> {
+    pub(crate) fn parse(word: &str) -> anyhow::Result<Run> {
         match word.split_once('*') {
-            None => Some(Run {
-                first: word.parse::<NodeWord>().ok()?.0,
+            None => Ok(Run {
+                first: word.parse::<NodeWord>()?.0,
                 count: 1,
             }),
-            Some((node, count)) => Some(Run {
-                first: node.parse::<NodeWord>().ok()?.0,
-                count: count.parse::<u32>().ok()?,
+            Some((node, count)) => Ok(Run {
+                first: node.parse::<NodeWord>()?.0,
+                count: count.parse::<u32>()?,
             }),
         }
     }

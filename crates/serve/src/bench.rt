@@ -12,15 +12,14 @@ use matches::{get, get_lpm, get_spm, value};
 use nodes::error::ArchiveError;
 use nodes::node::Node;
 use prefix::pair::Pair;
-use std::alloc::{AllocError, Global};
 use std::mem::size_of_val;
 
 #[derive(Drop)]
 pub struct Bench<'a, K> {
     image: Image<'a, u32>,
-    // the queries of the exact match, and the whole keys of all others: a set may have fewer lengths than keys
-    queries: &'a [Pair<K>],
     keys: &'a [K],
+    // the lengths of the exact match; a set may have fewer of them than keys
+    lens: &'a [u8],
 }
 
 // The first so many items, or all.
@@ -39,22 +38,6 @@ fn whole<K: Key>(key: K) -> Pair<K> {
     }
 }
 
-// Each key with its length, as far as there are both.
-pub(crate) fn pairs_of<K: Key + Drop>(
-    heap: Global,
-    keys: &[K],
-    lens: &[u8],
-) -> Result<Vec<Pair<K>>, AllocError> {
-    let mut pairs = Vec::new(heap);
-    for (key, len) in keys.iter().zip(lens) {
-        pairs.push(Pair {
-            repr: *key,
-            len: *len,
-        })?;
-    }
-    Ok(pairs)
-}
-
 // How many keys the pass over wide blocks takes.
 const WIDE_KEYS: usize = 1 << 17;
 
@@ -62,7 +45,6 @@ impl<'a, K: Key + Drop> Bench<'a, K> {
     // Accepts the lists under keys of this kind, and keeps the first so many keys.
     pub(crate) fn new(
         lists: &'a Lists,
-        queries: &'a [Pair<K>],
         keys: &'a [K],
         limit: usize,
     ) -> Result<Bench<'a, K>, ArchiveError> {
@@ -72,7 +54,7 @@ impl<'a, K: Key + Drop> Bench<'a, K> {
         Ok(Bench {
             image: Image::new::<K>(nodes, values),
             keys: first(keys, limit),
-            queries: first(queries, limit),
+            lens: first(&lists.lens, limit),
         })
     }
 
@@ -96,7 +78,7 @@ impl<'a, K: Key + Drop> Bench<'a, K> {
         let keys = first(self.keys, limit);
         match op {
             Op::Acceptance => Ok(start.with(Some(self.verdict()))),
-            Op::Exact => self.pass_exact(first(self.queries, limit), start),
+            Op::Exact => self.pass_exact(limit, start),
             Op::Longest => self.pass_longest(keys, start),
             Op::LongestValue => self.pass_longest_value(keys, start),
             Op::LongestValueChained => self.pass_chained(keys, start),
@@ -108,12 +90,20 @@ impl<'a, K: Key + Drop> Bench<'a, K> {
     }
 
     // A pass takes the answers into the tally one after another, or answers the first fault. Nothing is
-    // allocated.
-    fn pass_exact<T: Tally>(&self, queries: &[Pair<K>], start: T) -> Result<T, ArchiveError> {
+    // allocated. This one is of the keys that have a length: the two lists are cut to one number, so that
+    // the compiler counts once for both. Without the hint the other passes take more instructions.
+    #[inline(never)]
+    fn pass_exact<T: Tally>(&self, limit: usize, start: T) -> Result<T, ArchiveError> {
         let image = &self.image;
+        let keys = first(self.keys, limit);
+        let lens = first(self.lens, limit);
         let mut tally = start;
-        for query in queries {
-            let answer = match get(image, query)? {
+        for (key, len) in first(keys, lens.len()).iter().zip(first(lens, keys.len())) {
+            let query = Pair {
+                repr: *key,
+                len: *len,
+            };
+            let answer = match get(image, &query)? {
                 None => None,
                 Some(place) => Some(Answer::Value(*value(image, place)?)),
             };

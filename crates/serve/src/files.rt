@@ -15,29 +15,33 @@ pub struct Lists {
 
 // The numbers of 32 bits that the bytes are.
 pub(crate) fn numbers_of(heap: Global, bytes: &[u8]) -> Result<Vec<u32>, AllocError> {
-    let mut numbers = Vec::new(heap);
-    for group in bytes.as_chunks::<4>().0 {
-        numbers.push(u32::from_le_bytes(*group))?;
-    }
-    Ok(numbers)
+    bytes
+        .as_chunks::<4>()
+        .0
+        .iter()
+        .map(|group| u32::from_le_bytes(*group))
+        .collect(heap)
 }
 
 // The numbers of 64 bits that the bytes are.
 pub(crate) fn long_numbers_of(heap: Global, bytes: &[u8]) -> Result<Vec<u64>, AllocError> {
-    let mut numbers = Vec::new(heap);
-    for group in bytes.as_chunks::<8>().0 {
-        numbers.push(u64::from_le_bytes(*group))?;
-    }
-    Ok(numbers)
+    bytes
+        .as_chunks::<8>()
+        .0
+        .iter()
+        .map(|group| u64::from_le_bytes(*group))
+        .collect(heap)
 }
 
-// The nodes that the numbers are.
-fn nodes_of(heap: Global, numbers: &[u32]) -> Result<Vec<Node>, AllocError> {
-    let mut nodes = Vec::new(heap);
-    for group in numbers.as_chunks::<4>().0 {
-        nodes.push(Node::from(*group))?;
-    }
-    Ok(nodes)
+// The nodes that the bytes are, four numbers each.
+fn nodes_of(heap: Global, bytes: &[u8]) -> Result<Vec<Node>, AllocError> {
+    let numbers = bytes.as_chunks::<4>().0;
+    numbers
+        .as_chunks::<4>()
+        .0
+        .iter()
+        .map(|group| Node::from(group.map(u32::from_le_bytes)))
+        .collect(heap)
 }
 
 fn read_file(rt: &HostRuntime, folder: &str, set: &str, kind: &str) -> io::Result<Vec<u8>> {
@@ -45,20 +49,12 @@ fn read_file(rt: &HostRuntime, folder: &str, set: &str, kind: &str) -> io::Resul
     fs::read(rt, &path)
 }
 
-fn read_numbers(rt: &HostRuntime, folder: &str, set: &str, kind: &str) -> io::Result<Vec<u32>> {
-    let bytes = read_file(rt, folder, set, kind)?;
-    Ok(numbers_of(rt.alloc(), &bytes)?)
-}
-
-fn read_nodes(rt: &HostRuntime, folder: &str, set: &str) -> io::Result<Vec<Node>> {
-    let numbers = read_numbers(rt, folder, set, "nodes")?;
-    Ok(nodes_of(rt.alloc(), &numbers)?)
-}
-
 pub(crate) fn read_lists(rt: &HostRuntime, folder: &str, set: &str) -> io::Result<Lists> {
+    let nodes = read_file(rt, folder, set, "nodes")?;
+    let values = read_file(rt, folder, set, "values")?;
     Ok(Lists {
-        nodes: read_nodes(rt, folder, set)?,
-        values: read_numbers(rt, folder, set, "values")?,
+        nodes: nodes_of(rt.alloc(), &nodes)?,
+        values: numbers_of(rt.alloc(), &values)?,
         keys: read_file(rt, folder, set, "keys")?,
         lens: read_file(rt, folder, set, "lens")?,
     })

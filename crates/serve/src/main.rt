@@ -7,10 +7,10 @@ mod files;
 mod op;
 mod tally;
 
-use crate::bench::{AnyBench, Bench, pairs_of};
+use crate::bench::{AnyBench, Bench};
 use crate::files::{long_numbers_of, numbers_of, read_lists};
 use crate::op::{Op, UnknownOp};
-use anyhow::{bail, ensure};
+use anyhow::{Context, bail, ensure};
 use std::io::{BufRead, BufReader};
 use std::num::nearest_u64_to_f64;
 use std::time::Instant;
@@ -85,7 +85,8 @@ impl<'a, 'b> Server<'a, 'b> {
 
     // Answers the commands of standard input, a line each.
     fn serve(&self) -> anyhow::Result<()> {
-        println!(self.rt; "memory image {}\nready", self.bench.image_bytes())?;
+        println!(self.rt; "memory image {}", self.bench.image_bytes())?;
+        println!(self.rt; "ready")?;
         for line in BufReader::new(self.rt.alloc(), self.rt.stdin())?.lines(self.rt.alloc()) {
             self.answer_line(&line?)?;
         }
@@ -112,26 +113,24 @@ fn serve_set(rt: &HostRuntime, folder: &str, set: &str, limit: usize) -> anyhow:
     let lists = read_lists(rt, folder, set)?;
     if set.starts_with("w64") {
         let keys = long_numbers_of(rt.alloc(), &lists.keys)?;
-        let queries = pairs_of(rt.alloc(), &keys, &lists.lens)?;
-        let bench = Bench::new(&lists, &queries, &keys, limit)?;
-        let bench = AnyBench::Bits64(bench);
+        let bench = AnyBench::Bits64(Bench::new(&lists, &keys, limit)?);
         Server { rt, bench }.serve()
     } else {
         let keys = numbers_of(rt.alloc(), &lists.keys)?;
-        let queries = pairs_of(rt.alloc(), &keys, &lists.lens)?;
-        let bench = Bench::new(&lists, &queries, &keys, limit)?;
-        let bench = AnyBench::Bits32(bench);
+        let bench = AnyBench::Bits32(Bench::new(&lists, &keys, limit)?);
         Server { rt, bench }.serve()
     }
 }
 
 fn run(rt: &HostRuntime) -> anyhow::Result<()> {
-    let words: Vec<String> = std::env::args(rt)?.skip(1).collect(rt.alloc())?;
-    match words.as_slice() {
-        [folder, set] => serve_set(rt, folder, set, usize::MAX),
-        [folder, set, limit] => serve_set(rt, folder, set, limit.parse::<usize>()?),
-        _ => bail!("the arguments are FOLDER SET [KEYS]"),
-    }
+    let mut words = std::env::args(rt)?.skip(1);
+    let folder = words.next().context("no folder")?;
+    let set = words.next().context("no set")?;
+    let limit = match words.next() {
+        Some(word) => word.parse::<usize>()?,
+        None => usize::MAX,
+    };
+    serve_set(rt, &folder, &set, limit)
 }
 
 fn main(rt: HostRuntime) -> anyhow::Result<()> {

@@ -5,7 +5,7 @@ ghost use Rattle.serve.specs.Ops.{name_of, Named};
 use std::fmt;
 use std::str::FromStr;
 
-#[derive(Clone, Copy)]
+#[derive(Clone, Copy, PartialEq, Eq)]
 pub enum Op {
     Acceptance,
     Exact,

@@ -8,6 +8,7 @@ use Rattle.sheet.specs.Columns.{FitsLine, AreRows, line, lines, BeginsWithNone, 
 use Rattle.sheet.specs.Limits.{is_sheet_width, AreWithinLimits}
 use Rattle.sheet.specs.Entries.{head_numbers, node_numbers, value_numbers, IsAllowedHead}
 use Rattle.sheet.specs.Sheets.{Contents, head_of, body_text, sheet_text, FitsSheet, WritingIsInjective, Malformed, Wellformed, HasHead, HasParts}
+use Rattle.sheet.specs.Readings.{HasLines}
 use Rattle.sheet.proofs.Runs.{Cancels}
 use Rattle.sheet.proofs.Rulings.{line_cancels, lines_cancel}
 
@@ -189,11 +190,14 @@ pub ruleset checks = (one, parted_headed)
 -- the lines of a sheet's text are there
 -- the first part gives a premise back: it is there so that the check finds the term
 pub parted_lines : (s : List ℕ) (h : Head) (r t : List ℕ) → HasParts s h r t → HasParts s h r t × Wellformed s
+    × HasLines node_numbers h.nodes r × HasLines value_numbers h.values t
     × (LacksLines node_numbers h.nodes r → ⊥) × (LacksLines value_numbers h.values t → ⊥)
-unfolding HasParts Wellformed LacksLines BeginsWithNone
+unfolding HasParts Wellformed LacksLines FollowsLines BeginsWithNone
 parted_lines s h r t p = (
   p,
   (p.0, p.1, p.3),
+  (lines value_numbers (p.0).values, ((p.0).nodes, (p.1.1, ap (λ (x : Head). x.nodes) p.2), p.4)),
+  ([], ((p.0).values, (p.1.2, ap (λ (x : Head). x.values) p.2), p.5 ∙ sym (append-nil (lines value_numbers (p.0).values)))),
   (λ none. none (p.0).nodes (lines value_numbers (p.0).values) (p.1.1, ap (λ (x : Head). x.nodes) p.2) p.4),
   (λ none. none (p.0).values [] (p.1.2, ap (λ (x : Head). x.values) p.2) (p.5 ∙ sym (append-nil (lines value_numbers (p.0).values)))),
 )

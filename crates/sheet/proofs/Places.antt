@@ -1,20 +1,65 @@
 -- The digits of a column write its number back, and no text has two columns at its front.
-use Rattle.std.proofs.Common.{◌≡◌, ℕ, zero, suc, ◌+◌, ◌*◌, ◌/◌, ◌%◌, ◌^◌, ◌<◌, ◌≤◌, true, false, ◌||◌, eqb, leb, List, [], ◌∷◌, ◌++◌, length, get_or, take, drop, sym, refl, ap, ◌∙◌, inl, inr, ◌⊎◌, ⊎_elim, pow-suc, div-add-mod', div-one, arith}
-use native.Mathlib.Nat.{div-div-eq-div-mul, div-eq_of_lt, one-le-pow}
+use Rattle.std.proofs.Common.{◌≡◌, ℕ, zero, suc, ◌+◌, ◌*◌, ◌/◌, ◌%◌, ◌^◌, ◌<◌, ◌≤◌, true, false, ◌||◌, eqb, leb, List, [], ◌∷◌, ◌++◌, length, take, drop, set, reverse, add-one, sym, refl, ap, ◌∙◌, subst, inl, inr, ◌⊎◌, ⊎_elim, pow-suc, div-add-mod', div-one, arith}
+use native.Mathlib.Nat.{div-div-eq-div-mul, div-eq_of_lt, one-le-pow, lt-div-mul-add}
 use Rattle.std.proofs.lemmas.Nat.{mod_below}
 use Rattle.std.proofs.lemmas.Grind.{common_steps}
 use Rattle.std.specs.Cmp.Lexicographic.{pointwise}
 use Rattle.std.proofs.lemmas.Slice.Eq.{bytes_eq-Decides}
-use Rattle.std.proofs.lemmas.List.{take_at, append_cancel_left}
-use Rattle.std.proofs.lemmas.Bool.{cases_Bool, false≢true, le-leb, and_from, cond-true, cond-false, or_parts, leb-false}
+use Rattle.std.proofs.lemmas.List.{take_at, take_all, take_more_set, reverse-append, append_cancel_left}
+use Rattle.std.proofs.lemmas.Bool.{cases_Bool, false≢true, le-leb, and_from, cond-true, cond-false, or_parts, or_from, or_right, ne_eqb, lt-leb, leb-false}
 use Rattle.sheet.specs.Columns.{mark, marks, column, FitsColumn}
 use Rattle.sheet.specs.Digits.{with_digit, column_value}
 
-pub ten_pos : (j : ℕ) → 0 < 10 ^ j
+ten_pos : (j : ℕ) → 0 < 10 ^ j
 ten_pos j = one-le-pow j 10 (omega arith)
 
 next_rest : (n j : ℕ) → n / 10 ^ j / 10 ≡ n / 10 ^ suc j
 next_rest n j = div-div-eq-div-mul n (10 ^ j) 10 ∙ ap (λ (p : ℕ). n / p) (sym (pow-suc 10 j))
+
+-- the mark at place j is a digit where the number without the digits right of it is not 0, or at the right end
+pub digit_marked : (n j r : ℕ) → r ≡ n / 10 ^ j → 0 < r → 48 + r % 10 ≡ mark n j
+digit_marked n j r e h =
+    let there : leb (10 ^ j) n ≡ true =
+    ⊎_elim (λ (t : leb (10 ^ j) n ≡ true). t)
+    (λ (f : leb (10 ^ j) n ≡ false). absurd (omega (arith, h, e, div-eq_of_lt (leb-false (10 ^ j) n f))))
+    (cases_Bool (leb (10 ^ j) n)) in
+    ap (λ (q : ℕ). 48 + q % 10) e ∙ sym (cond-true _ (48 + n / 10 ^ j % 10) 32 (or_right (eqb j 0) (leb (10 ^ j) n) there))
+
+pub last_marked : (n r : ℕ) → r ≡ n / 10 ^ 0 → 48 + r % 10 ≡ mark n 0
+last_marked n r e = ap (λ (q : ℕ). 48 + q % 10) e
+
+-- and else a space
+pub space_marked : (n j r : ℕ) → r ≡ n / 10 ^ j → r ≡ 0 → 0 < j → 32 ≡ mark n j
+space_marked n j r e z h =
+    let near : n < 0 * 10 ^ j + 10 ^ j = subst (λ (q : ℕ). n < q * 10 ^ j + 10 ^ j) (sym e ∙ z) (lt-div-mul-add (ten_pos j)) in
+    let small : n < 10 ^ j = omega (arith, near) in
+    sym (cond-false _ (48 + n / 10 ^ j % 10) 32 (or_from (eqb j 0) (leb (10 ^ j) n) (ne_eqb j 0 (λ k. omega (arith, k, h))) (lt-leb (10 ^ j) n small)))
+
+-- the mark by what is left of the number
+pub ruleset rest_marked = (digit_marked, last_marked, space_marked, common_steps)
+
+-- one more mark, of those that stand from the right to the left
+pub mark_more : (n j m : ℕ) (ms : List ℕ) → j < length ms → m ≡ mark n j → reverse (take j ms) ≡ marks j n
+    → reverse (take (j + 1) (set ms j m)) ≡ marks (j + 1) n
+mark_more n j m ms h e k =
+    ap reverse (take_more_set ms j m h)
+    ∙ reverse-append (take j ms) (m ∷ [])
+    ∙ ap (λ (t : List ℕ). m ∷ t) k
+    ∙ ap (λ (x : ℕ). x ∷ marks j n) e
+    ∙ ap (λ (i : ℕ). marks i n) (sym (add-one j))
+
+-- the number without one digit more
+-- the first part gives a premise back: it is there so that the check finds the term
+pub rest_more : (n j r : ℕ) → r ≡ n / 10 ^ j → (r ≡ n / 10 ^ j) × (r / 10 ≡ n / 10 ^ (j + 1))
+rest_more n j r e = (e, ap (λ (q : ℕ). q / 10) e ∙ next_rest n j ∙ ap (λ (k : ℕ). n / 10 ^ k) (sym (add-one j)))
+
+-- all eleven marks, from the left to the right
+pub all_marked : (n j : ℕ) (ms : List ℕ) → j ≡ 11 → length ms ≡ 11 → reverse (take j ms) ≡ marks j n → reverse ms ≡ column n
+unfolding column
+all_marked n j ms d l e = ap reverse (sym (take_all j ms (omega (arith, d, l)))) ∙ e ∙ ap (λ (k : ℕ). marks k n) d
+
+-- the marks set one after another
+pub ruleset marked = (rest_more, mark_more, all_marked, common_steps)
 
 -- a digit's mark carries the number on by one place
 digit_carries : (v r : ℕ) → r < 10 → with_digit v (48 + r) ≡ v * 10 + r
@@ -72,27 +117,6 @@ pub column_cancel : (m n : ℕ) (r t : List ℕ) → FitsColumn m → FitsColumn
 column_cancel m n r t h k e =
     let same : m ≡ n = sym (same_front m (column m ++ r) r h refl) ∙ same_front n (column m ++ r) t k e in
     (same, append_cancel_left (column m) r t (e ∙ ap (λ (x : ℕ). column x ++ t) (sym same)))
-
--- the k numbers from place i on
-abbrev spread : ℕ → ℕ → List ℕ → List ℕ
-spread zero i ns = []
-spread (suc k) i ns = get_or ns i 0 ∷ spread k (suc i) ns
-
-spread_tail : (k i n : ℕ) (ns : List ℕ) → spread k (suc i) (n ∷ ns) ≡ spread k i ns
-spread_tail zero i n ns = refl
-spread_tail (suc k) i n ns = ap (λ (ms : List ℕ). get_or ns i 0 ∷ ms) (spread_tail k (suc i) n ns)
-
-spread_all : (k : ℕ) (ns : List ℕ) → length ns ≡ k → spread k 0 ns ≡ ns
-spread_all zero [] l = refl
-spread_all zero (n ∷ ns) l = absurd (omega arith)
-spread_all (suc k) [] l = absurd (omega arith)
-spread_all (suc k) (n ∷ ns) l =
-    ap (λ (ms : List ℕ). n ∷ ms) (spread_tail k 0 n ns ∙ spread_all k ns (omega arith))
-
--- a list of eleven numbers, by its numbers
-pub eleven : (ns : List ℕ) → length ns ≡ 11
-    → (length ns ≡ 11) × (ns ≡ get_or ns 0 0 ∷ get_or ns 1 0 ∷ get_or ns 2 0 ∷ get_or ns 3 0 ∷ get_or ns 4 0 ∷ get_or ns 5 0 ∷ get_or ns 6 0 ∷ get_or ns 7 0 ∷ get_or ns 8 0 ∷ get_or ns 9 0 ∷ get_or ns 10 0 ∷ [])
-eleven ns h = (h, sym (spread_all 11 ns h))
 
 -- a text is its first k characters and the others
 -- the first part is refl: it is there so that the check finds the term

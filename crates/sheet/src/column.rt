@@ -1,33 +1,37 @@
-ghost use Rattle.std.specs.Prelude.{◌≡◌, ◌^◌, ◌<◌, ◌≤◌, MatchOption};
+ghost use Rattle.std.specs.Prelude.{◌≡◌, ℕ, ◌/◌, ◌^◌, ◌≤◌, MatchOption};
 ghost use Rattle.sheet.specs.Columns.{FitsColumn, ParsesFront, column, mark};
 ghost use Rattle.sheet.specs.Digits.{with_digit, column_value};
-
-use std::array;
 
 // How many characters a column has.
 pub const WIDTH: usize = 11;
 
-// The character at place `j`, counted from the right, of the column of `n`.
-#[tactic(auto, using(crate::proofs::Places::ten_pos))]
-fn mark_of(n: u32, j: usize) -> u8
-    requires { j ≤ WIDTH }
-    ensures { result ≡ mark n j }
+// The character at place `j`, counted from the right, of the column of a number that is `rest` without
+// the digits right of that place.
+#[tactic(auto, using(crate::proofs::Places::rest_marked))]
+fn mark_of(rest: u32, j: usize) -> u8
+    ensures { (n : ℕ) → rest ≡ n / 10 ^ j → result ≡ mark n j }
 {
-    let n = u64::from(n);
-    let place = 10u64.pow(j as u32);
-    if j == 0 || place <= n {
-        b'0' + (n / place % 10) as u8
+    if j == 0 || rest > 0 {
+        b'0' + (rest % 10) as u8
     } else {
         b' '
     }
 }
 
 // The column of `n`: its digits, with spaces before them.
-#[tactic(auto, using(crate::proofs::Places::eleven), unfolding(crate::specs::Columns::column))]
+#[tactic(auto, using(crate::proofs::Places::marked))]
 pub fn format_column(n: u32) -> [u8; WIDTH]
     ensures { result ≡ column n }
 {
-    array::from_fn(|i| mark_of(n, WIDTH - 1 - i))
+    // The marks from the right to the left, each by one division by ten, and then turned round.
+    let mut text = [b' '; WIDTH];
+    let mut rest = n;
+    for (j, place) in text.iter_mut().enumerate() {
+        *place = mark_of(rest, j);
+        rest /= 10;
+    }
+    text.reverse();
+    text
 }
 
 // `value` with the digit `mark` set behind it, if that is below 2^32.

@@ -1,6 +1,6 @@
 ghost use Rattle.sheet.specs.Columns.{ParsesFront, line};
 ghost use Rattle.sheet.specs.Entries.{IsAllowedHead, head_numbers};
-ghost use Rattle.sheet.specs.Readings.{LoadsLines, ReadsSheet};
+ghost use Rattle.sheet.specs.Readings.{HasLines, LoadsLines, ReadsSheet};
 ghost use Rattle.sheet.specs.Sheets.{ChecksSheet, FindsParts, WritingIsInjective};
 ghost use Rattle.std.specs.Prelude.{◌≡◌, Decides};
 
@@ -58,18 +58,16 @@ pub fn check(text: &[u8]) -> Result<Head, ArchiveError>
         .ok_or(ArchiveError::SheetMalformed)
 }
 
-// Reads `count` lines from the front of a text. It looks for all of them before it keeps one, so that
-// want of memory is answered only where they are there.
+// Reads the `count` lines that a text begins with.
 #[tactic(auto, using(crate::proofs::Rulings::listed))]
-pub fn load_lines<L: Line<N>, const N: usize>(
+fn take_lines<L: Line<N>, const N: usize>(
     heap: Global,
     text: &[u8],
     count: u32,
 ) -> Result<Vec<L>, ReadError>
-    ensures loaded { LoadsLines L.Line.numbers count text.now result }
-    ensures same { text.exit.now ≡ text.entry.now }
+    requires { HasLines L.Line.numbers count text.now }
+    ensures { LoadsLines L.Line.numbers count text.now result }
 {
-    skip_lines::<L, N>(text, count).ok_or(ArchiveError::SheetMalformed)?;
     let mut items = Vec::new(heap);
     let mut rest = text;
     for _ in 0..count {
@@ -80,6 +78,20 @@ pub fn load_lines<L: Line<N>, const N: usize>(
     Ok(items)
 }
 
+// Reads `count` lines from the front of a text. It looks for all of them before it keeps one, so that
+// want of memory is answered only where they are there.
+pub fn load_lines<L: Line<N>, const N: usize>(
+    heap: Global,
+    text: &[u8],
+    count: u32,
+) -> Result<Vec<L>, ReadError>
+    ensures loaded { LoadsLines L.Line.numbers count text.now result }
+    ensures same { text.exit.now ≡ text.entry.now }
+{
+    skip_lines::<L, N>(text, count).ok_or(ArchiveError::SheetMalformed)?;
+    take_lines(heap, text, count)
+}
+
 // Reads a sheet. A text that is no sheet's is refused as such, whatever memory there is.
 #[tactic(auto, using(crate::proofs::Pages::readings))]
 pub fn read(heap: Global, text: &[u8]) -> Result<Sheet, ReadError>
@@ -88,8 +100,8 @@ pub fn read(heap: Global, text: &[u8]) -> Result<Sheet, ReadError>
     ensures same { text.exit.now ≡ text.entry.now }
 {
     let (head, nodes, values) = survey(text).ok_or(ArchiveError::SheetMalformed)?;
-    let nodes = load_lines::<Node, 4>(heap, nodes, head.nodes)?;
-    let values = load_lines::<u32, 1>(heap, values, head.values)?;
+    let nodes = take_lines::<Node, 4>(heap, nodes, head.nodes)?;
+    let values = take_lines::<u32, 1>(heap, values, head.values)?;
     Ok(Sheet {
         width: head.width,
         nodes,

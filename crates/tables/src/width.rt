@@ -5,7 +5,7 @@ use std::str::FromStr;
 use thiserror::Error;
 
 // The width of a key in bits.
-#[derive(Clone, Copy)]
+#[derive(Clone, Copy, PartialEq, Eq)]
 pub enum Width {
     Bits8,
     Bits16,

@@ -1,6 +1,6 @@
 use Rattle.std.proofs.Common.{◌≡◌, ◌++◌, vec_items}
 use Rattle.sheet.specs.Columns.{AreRows, lines}
-use Rattle.sheet.proofs.reading.load_lines.Given as goal
+use Rattle.sheet.proofs.reading.take_lines.Given as goal
 
 abbrev pub invariant-loop : goal.invariant-loop
 invariant-loop g l =
